@@ -1,25 +1,25 @@
-# Builds, proves and checks; `make help` lists the words. Works with GNU make and with bmake.
+# Builds, proves and checks; `make help` lists the targets. Works with GNU make and with bmake.
 .POSIX:
 .NOTPARALLEL:
 
-# The compiler that the environment names, else the first that is there.
+# The compiler that the environment names, or else the first that is installed.
 CC != echo $${CC:-$$(for name in cc gcc clang tcc; do command -v $$name >/dev/null && echo $$name && break; done)}
 CFLAGS = -O2
 PREFIX = $(HOME)/.local
 LIBDIR = lib
-# Archives have the time of the last change, so that they are the same when they are made twice.
+# Archives have the time of the last change, so that making them twice gives the same bytes.
 TIME != echo $${SOURCE_DATE_EPOCH:-$$(git log -1 --format=%at 2>/dev/null || date -r CHANGELOG.md +%s)}
 export SOURCE_DATE_EPOCH=$(TIME)
-# The scripts get the folder from the environment, where quotes in its name do no harm.
+# The scripts get the folder from the environment, where quotes in its name are harmless.
 export TRAC_PREFIX=$(PREFIX)
 export TRAC_TO=$(DESTDIR)$(PREFIX)
-# Debian's own Python has Debian's packages of pytest and Selenium. The page needs any Python.
+# Debian's own Python has Debian's packages of pytest and Selenium. For the page any Python will do.
 PYTHON != command -v /usr/bin/python3 || echo python3
 VERSION != cat VERSION
 SOURCES != find crates.txt crates -name out -prune -o -type f \( -name '*.rt' -o -name '*.antt' -o \
     -name crates.txt \) -print
 PAGE != find hosts/page hosts/js examples docs/EXERCISES.md docs/LANGUAGE.md docs/LESSON.md -type f ! -name '*.pyc'
-# The crates of which `make edits` tries the edits that the gate leaves out.
+# The crates whose edits `make edits` tries: those that the gate leaves out.
 CRATES != ls further-edits
 
 RT = $(PYTHON) checks/progress.py
@@ -28,14 +28,14 @@ PYTEST = $(PYTHON) -m pytest -q -n auto --dist loadfile
 TERMINAL = hosts/c/terminal.c hosts/c/calls.c hosts/c/listing.c hosts/c/loading.c hosts/c/replacing.c hosts/c/saving.c \
     hosts/c/suspicions.c hosts/c/texts.c hosts/c/typing.c
 TRACER = hosts/c/trace.c hosts/c/calls.c hosts/c/listing.c hosts/c/suspicions.c hosts/c/texts.c
-# Lines are edited by libedit, where it is there.
+# libedit edits lines, if it is installed.
 EDITING = -DWITH_LIBEDIT -ledit
-# A file is made under another name, and renamed when it is whole and on the disk. So nothing takes for it what a kill,
-# a full disk or lost power leaves.
+# A file is made under another name, and renamed when it is complete and on the disk. So nothing uses an incomplete file
+# that a kill, a full disk or lost power leaves.
 NEW = $@.$$$$
 DONE = sync $(NEW) && mv -f $(NEW) $@
 
-# The engine in units that take about as long to compile, and are compiled beside each other. A run needs the first.
+# The engine in units that take about as long to compile, and are compiled in parallel. A run needs the first four.
 RUN_UNITS = build/units/1.o build/units/2.o build/units/3.o build/units/4.o
 CHECK_UNITS = build/units/5.o build/units/6.o build/units/7.o
 UNITS = $(RUN_UNITS) $(CHECK_UNITS)
@@ -44,15 +44,15 @@ COMPILE = compile() { \
         -DTRAC_UNIT=$$1 -c -o $$file.$$$$ hosts/c/trac_engine.c && sync $$file.$$$$ && \
     mv -f $$file.$$$$ $$file; }
 WAIT = for process in $$started; do wait $$process || exit; done
-# In trac_check one function has seven thousand lines, which gcc compiles in half the time by -O1, and no worse.
+# In trac_check one function has seven thousand lines. gcc compiles it in half the time with -O1, and as well.
 CHECK_CFLAGS = -O1
-# The shared library is another wherever trac_abi refuses a program: where the version differs but for the patch.
+# The name of the shared library has the part of the version by which trac_abi refuses a program: all but the patch.
 ABI != cut -d . -f 1,2 VERSION
 SHARED = build/libtrac.so.$(ABI)
 
 all: build/trac build/trac_terminal build/trac_trace
 
-# About how long each takes on four cores, where nothing is built or proved yet.
+# The times are for four cores, with nothing built or proved yet.
 help:
 	@sed -n 's/^## //p' Makefile
 
@@ -60,7 +60,7 @@ help:
 build/trac: hosts/c/trac.c hosts/c/words.h $(RUN_UNITS)
 	$(CC) -std=c11 $(CPPFLAGS) $(CFLAGS) $(LDFLAGS) -o $(NEW) hosts/c/trac.c $(RUN_UNITS) && $(DONE)
 
-# The launcher takes these for old where any file of hosts/c is newer.
+# The launcher regards these as out of date if any file of hosts/c is newer.
 build/trac_terminal: hosts/c/*.[ch] $(UNITS)
 	{ $(CC) -std=c11 $(CPPFLAGS) $(CFLAGS) $(LDFLAGS) -o $(NEW) $(TERMINAL) $(UNITS) $(EDITING) 2>/dev/null || \
 	    $(CC) -std=c11 $(CPPFLAGS) $(CFLAGS) $(LDFLAGS) -o $(NEW) $(TERMINAL) $(UNITS); } && $(DONE)
@@ -90,8 +90,8 @@ check-machines: check-tools
 test:
 	@checks/gate check check-machines proofs check-proved check-timed
 
-# `rt lib` takes nothing of what `rt ci` proves. Where nothing was proved yet, a copy of the tree proves and builds the
-# libraries beside it, by the processors that it leaves idle.
+# `rt lib` uses nothing that `rt ci` proves. If nothing was proved yet, a copy of the tree proves and builds the
+# libraries in parallel, with the processors that `rt ci` leaves idle.
 proofs:
 	@copy=$$(mktemp -d) && trap 'kill -- "-$$!" 2>/dev/null || :; rm -rf "$$copy"' EXIT && \
 	    trap 'exit 130' HUP INT TERM && status=0 && \
@@ -107,7 +107,7 @@ check-proved: check-tools programs dist
 	$(PYTEST) checks/proved
 	$(PYTHON) bench/bench.py --smoke
 
-# What measures time runs by itself.
+# Checks that measure time run alone.
 check-timed: check-tools page
 	$(PYTEST) -n 0 -m timed checks/test_page*.py
 
@@ -124,8 +124,12 @@ edits:
 new-function: check-tools
 	$(PYTHON) checks/new_function.py
 
+## make format     the sources and proofs of the crates as rt fmt writes them, which rt ci wants (the kit; seconds)
+format:
+	@for crate in crates/*; do (cd "$$crate" && rt fmt) || exit; done
+
 ## make generate   hosts/c/trac_engine.c and hosts/wasm/trac.wasm anew (the kit, Python, binaryen, wabt; 15 minutes)
-generate:
+generate: format
 	hosts/c/generate
 
 ## make rust       the crate for Rust, hosts/rust, anew from the sources of the crates (Python; a second)
@@ -136,7 +140,7 @@ rust:
 editors: $(SHARED)
 	$(PYTHON) checks/function_names.py $(SHARED)
 
-# What the kit makes of dist/, where the kit is.
+# The part of dist/ that the kit makes, if there is a kit.
 PROVED != ! command -v rt >/dev/null || echo programs dist/libtrac.a
 
 ## make dist       what is handed out, in dist/; the kit makes what is proved (what make check needs; 25 minutes)
@@ -152,7 +156,7 @@ dist: $(PROVED) all build/libtrac.a $(SHARED) page npm dist/trac_t64-$(VERSION).
 	fi
 	@stage=$$(mktemp -d) && trap 'rm -rf "$$stage"' EXIT && hosts/system/stage "$$stage/all" /usr/local lib && \
 	    cp -R "$$stage/all/share/doc/trac-t64" dist/doc
-	@# The lines of a file that is missing are left out.
+	@# The lines about missing files are left out.
 	sed 's/@VERSION@/$(VERSION)/' hosts/system/README.in | awk '/^[a-z]/ { name = $$1; sub(",", "", name); \
 	    missing = system("test -e dist/" name) } !missing' >dist/README
 
@@ -165,7 +169,7 @@ dist/libtrac.a: $(SOURCES) hosts/c/proved.c hosts/c/api.c hosts/c/trac.h
 	objcopy -w --keep-global-symbol='trac_[!e]*' build/libtrac.o
 	rm -f $(NEW) && ar rcs $(NEW) build/libtrac.o && $(DONE)
 
-# The same library as it is for browsers, which hosts/c/generate takes.
+# The same library for browsers too, from which hosts/c/generate makes its files.
 libraries: dist/libtrac.a
 	@$(RT) trac_c rt lib --target wasm64-unknown-unknown
 
@@ -212,7 +216,7 @@ $(CHECK_UNITS): hosts/c/trac_engine.c hosts/c/trac.h
 	mkdir -p build/units
 	$(COMPILE); for unit in 5 6 7; do compile $$unit "$(CHECK_CFLAGS)" & started="$$started $$!"; done; $(WAIT)
 
-# One object, in which what the units share is nobody else's any more.
+# One object, in which the names that the units share are hidden.
 build/libtrac.a: $(UNITS)
 	$(CC) -r -nostdlib -o build/units/libtrac.o $(UNITS)
 	! command -v objcopy >/dev/null || objcopy --localize-hidden build/units/libtrac.o
@@ -247,9 +251,9 @@ package: all build/libtrac.a $(SHARED)
 clean:
 	rm -rf build dist
 
-# What checks need, from Debian's packages.
+# Installs what the checks need, from Debian's packages.
 check-tools:
 	@checks/tools
 
-.PHONY: all help prove programs check check-machines test proofs check-proved check-timed edits new-function generate \
-    rust editors types dist libraries page npm install uninstall needs-prefix package clean check-tools
+.PHONY: all help prove programs check check-machines test proofs check-proved check-timed edits new-function format \
+    generate rust editors types dist libraries page npm install uninstall needs-prefix package clean check-tools

@@ -2,14 +2,14 @@
 """bench.py [--smoke | --growth | --beside FILE ..] [--only TEXT] [PROGRAM]: runs the built program on jobs of several
 kinds, and prints a table.
 
-Without PROGRAM it takes the proved program if that is built, else the program in C. With --smoke the jobs are small,
-and only the output is looked at: a wrong output is a failure, a slow run isn't. With --growth there is a job for each
-function, of two lengths. With --only the jobs are those whose names contain TEXT. m4 and valgrind add their columns if
-they are installed.
+Without PROGRAM it runs the proved program if that is built, and otherwise the program in C. With --smoke the jobs are
+small, and only the output is checked: a wrong output is a failure, a slow run isn't. With --growth there is a job for
+each function, of two lengths. With --only only the jobs whose names contain TEXT are run. m4 and valgrind add their
+columns if they are installed.
 
-With --beside the instructions of the program are compared with those of FILE, another processor of the language, whose
-words are cells and steps, or its source in C, which gcc builds. This needs valgrind. So the comparison of
-docs/PERFORMANCE.md is made, in some minutes, or one job of it:
+With --beside the instructions of the program are compared with those of FILE. FILE is another processor of the
+language, whose arguments are cells and steps, or its source in C, which gcc builds. This needs valgrind. These commands
+make the comparison in docs/PERFORMANCE.md, which takes some minutes, and one job of it:
 
     bench/bench.py --beside bench/plain.c --beside bench/fast.c
     bench/bench.py --beside bench/plain.c --beside bench/fast.c --only Hanoi build/trac
@@ -34,8 +34,7 @@ LINE = 'A stitch in time saves nine; the rest is silence. '
 
 
 class Job:
-    """A script, what it prints, the cells that it moves where that is known, and the same for m4
-    where m4 can do it."""
+    """A script, its output, the cells that it moves, if that is known, and the same job for m4, if m4 can do it."""
 
     def __init__(self, name, script, printed, cells=None, m4=None):
         self.name, self.script, self.printed = name, script.encode(), printed.encode()
@@ -125,7 +124,7 @@ COMPARED = {'4000 forms at random', 'plain text', 'protected text', 'towers of H
 
 
 def repeated_jobs(small):
-    """Jobs for that comparison alone: recursions, and single calls, as often as is said."""
+    """Jobs for that comparison only: recursions, and single calls, repeated a given number of times."""
     n = 20 if small else 2000
     sums = '#(ds,S,(#(gr,N,0,(#(cl,S,#(su,N,1),#(ad,A,#(ml,N,987654321)))),A)))#(ss,S,N,A)'
     yield Job('sums and products of a recursion', f"{sums}#(cl,S,{n},0)'", str(987654321 * n * (n + 1) // 2))
@@ -239,7 +238,7 @@ def row(job, program):
 
 
 def beside_m4(job):
-    """The instructions and the best of five times of GNU m4 on the same job, where it can do it."""
+    """The instructions and the best of five times of GNU m4 on the same job, if it can do it."""
     if not job.m4 or not shutil.which('m4'):
         return None, '-'
     words, given = ['m4', '-L0', '-'], job.m4.encode()
@@ -248,7 +247,7 @@ def beside_m4(job):
 
 
 def built(path, folder):
-    """A program, which gcc builds where its source is given."""
+    """A program; if its source is given, gcc builds it."""
     if not path.endswith('.c'):
         return path
     program = os.path.join(folder, os.path.basename(path)[:-2])

@@ -1,9 +1,9 @@
 #!/usr/bin/env python3
-"""starting.py: prints how long a clone takes to its first hello, how long the compiler takes for each unit of the
-engine, and what the launcher costs beside the program that it starts.
+"""starting.py: prints the time from a fresh clone to its first hello, the compiler's time for each unit of the engine,
+and what the launcher costs in addition to the program that it starts.
 
-Times are in seconds and milliseconds, the best of several runs; those of processors are the compiler's own, whatever
-else the machine does."""
+Times are in seconds and milliseconds, the best of several runs. Processor times are those of the compiler alone,
+whatever else the machine does."""
 import os
 import resource
 import shutil
@@ -28,7 +28,7 @@ def took(words, **more):
 
 
 def first_hello(folder, processors):
-    """The same of the launcher in a copy that has built nothing, on so many processors."""
+    """The same for the launcher in a copy that has built nothing, on a number of processors."""
     top = os.path.join(folder, str(processors))
     shutil.copytree(os.path.join(TOP, 'hosts', 'c'), os.path.join(top, 'hosts', 'c'))
     shutil.copy(os.path.join(TOP, 'trac'), top)

@@ -1,6 +1,6 @@
-"""worst.py [PROGRAM]: the time of a step in the worst scripts that are known, in nanoseconds for each cell of the
-workspace, in blocks that are full and in blocks with an eighth of their cells free. With --smoke the blocks are small.
-A script that its block can't hold has no time. docs/PERFORMANCE.md says what follows from the greatest."""
+"""worst.py [PROGRAM]: measures the time of a step in the worst known scripts, in nanoseconds for each cell of the
+workspace, in full blocks and in blocks with an eighth of their cells free. With --smoke the blocks are small. A script
+that doesn't fit in its block has no time. docs/PERFORMANCE.md says what follows from the greatest time."""
 import os
 import random
 import re
@@ -11,9 +11,9 @@ import time
 TOP = os.path.dirname(os.path.dirname(os.path.abspath(__file__)))
 IN_C = os.path.join(TOP, 'build', 'trac')
 CELLS, FEW = 65536, 8192
-# A form is half of the block at the most, since it is made of an argument as long; beside it stand the loop and a call.
+# A form is at most half of the block, because it is made from an argument of the same length; the rest is for the loop.
 SPARE = 700
-# How many steps of the loop are measured, and how often a call stands in it.
+# How many steps of the loop are measured, and how many calls it contains.
 STEPS, TIMES = 8000, 8
 
 
@@ -27,7 +27,7 @@ def gaps(n, ordinal):
     return f"#(ds,F,{'b' * n})#(ss,F{',' * ordinal}b)"
 
 
-# What the scripts do over and over: what makes the forms, which take some n cells, and the call that is repeated.
+# The repeated work of each script: the calls that make the forms, which take about n cells, and the repeated call.
 WORST = {
     'pf of gaps with great ordinals': (lambda n: gaps(n - 600, 600), lambda n: '#(pf,F)'),
     'ss of short texts over a random text of two letters': (
@@ -63,7 +63,7 @@ def measured(program, script, cells, steps):
 
 
 def cost(program, worst, cells, free):
-    """How many steps of the loop were made, and the seconds of those, without what makes the forms."""
+    """The number of steps of the loop that were made, and their seconds, without making the forms."""
     forms, call = worst
     size = (cells - free) // 2 - SPARE
     made = f"{forms(size)}'#(ds,L,({call(size) * TIMES}#(cl,L)))"

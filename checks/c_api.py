@@ -1,5 +1,5 @@
-"""What holds of an engine behind trac.h, through a C program over it: each script does there what it
-does in the built program, at once and in pieces."""
+"""Checks of any engine behind trac.h, made through a C program: each script does there what it does in the built
+program, in one run and in pieces."""
 import os
 import subprocess
 
@@ -9,15 +9,15 @@ from trac import TOP, report
 HEADERS = os.path.join(TOP, 'hosts', 'c')
 DRIVER = os.path.join(TOP, 'checks', 'c_library.c')
 STRICT = ['-std=c11', '-Wall', '-Wextra', '-Wpedantic', '-Werror', '-O2']
-# A sanitizer sees no less in what isn't optimized, which is compiled in a tenth of the time.
+# A sanitizer sees no less in unoptimized code, which compiles in a tenth of the time.
 SANITIZED = [*STRICT, '-O0', '-g', '-fsanitize=address,undefined', '-fno-sanitize-recover=all']
-# An engine takes no memory that it could leak; to look for that takes most of a short run's time.
+# An engine allocates no memory that it could leak; the search for leaks takes most of a short run's time.
 os.environ.setdefault('ASAN_OPTIONS', 'detect_leaks=0')
 
 INPUT_ENDED, WORKSPACE, STEPS, OUTPUT_FAILED, REFUSED = 2, 3, 4, 6, 9
 STATUS = {1: 0, INPUT_ENDED: 0, WORKSPACE: 1, STEPS: 3}
 
-# The bytes of input that a turn gets more.
+# The number of bytes by which the input of a turn grows.
 PIECES = (1, 2, 3, 7, 64)
 
 
@@ -39,7 +39,7 @@ def call(program, script, *numbers):
 
 
 def turns(program, row, most, sizes):
-    """The same of runs by turns of so many steps, one for each size of the output and of the pieces."""
+    """The same for runs in turns of a number of steps, one run for each size of the output and of the pieces."""
     words = [str(number) for pair in sizes for number in pair]
     done = subprocess.run([program, 'turns', str(row.cells), str(row.allowed), str(most), *words],
                           input=row.script, capture_output=True, timeout=60)
@@ -60,8 +60,8 @@ def codes(text):
 
 
 def view(program, row, most):
-    """What is seen of a machine before each of the first steps of a row, of its forms afterwards, and
-    how many displays were compared with what `pf` prints."""
+    """What is seen of a machine before each of the first steps of a script, of its forms afterwards, and how many
+    displays were compared with what `pf` prints."""
     done = subprocess.run([program, 'view', str(row.cells), str(row.allowed), str(most)],
                           input=row.script, capture_output=True, timeout=60)
     if done.returncode:
@@ -73,8 +73,8 @@ def view(program, row, most):
 
 
 class Engine:
-    """What holds of an engine behind the names of trac.h, where `programs` are the driver with it: by
-    two compilers, and one by which most is run, sanitized where that sees more."""
+    """Checks of an engine behind the names of trac.h. `programs` are the driver linked with it: built by two compilers,
+    and one with which most is run, with sanitizers if these see more."""
 
     def test_each_row_at_once(self):
         for row in rows():
@@ -151,7 +151,7 @@ class Engine:
             with self.subTest(row=row):
                 _, forms, more = view(self.programs[2], row, 0)
                 compared += more
-                # behind the last form there is none
+                # there is none after the last form
                 self.assertEqual(forms.pop(), [[0], [], [], []])
                 for [pointer], _, text, body in forms:
                     items = [chr(code) if code < 256 else f'<{code - 255}>' for code in body]

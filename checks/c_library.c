@@ -50,7 +50,7 @@ static void run_at_once(void) {
                           run.room);
 }
 
-/* The same on a stack of so many bytes. */
+/* The same on a stack of the given number of bytes. */
 static void run_on_stack(size_t bytes) {
     static ucontext_t here, there;
     const size_t page = 4096, held = (bytes + page - 1) / page * page;
@@ -80,8 +80,8 @@ static int is_refused(trac_machine *machine) {
            !trac_part(machine, TRAC_PART_FREE) && trac_meta(machine) == 256 && trac_awaits(machine) == TRAC_REFUSED;
 }
 
-/* Whether a check tells what is suspicious, as much as there is room for, with lists at any place, says where memory is
- * missing, and refuses what can't be used. */
+/* Whether a check reports what is suspicious, as much as there is room for, with lists at any place; reports a lack of
+ * memory; and refuses arguments that can't be used. */
 static int checks(void) {
     static const char script[] = "#(pss,a)'", line[] = "line 1, column 1: no function has the name pss\n";
     static char memory[65536];
@@ -116,8 +116,8 @@ static int is_found(const trac_form *form) {
            trac_form_codes(form, NULL, 0) || trac_form_pointer(form);
 }
 
-/* Whether a place in the list of forms is none any more after a turn, again, a move and another opening over the same
- * words, in the same block or in another one, whose forms are the same. */
+/* Whether a place in the list of forms is refused after a turn, after `again`, after a move and after another opening
+ * with the same words, in the same block or in another one whose forms are the same. */
 static int places(void) {
     static const char script[] = "#(ds,a,b)#(ds,c,d)'";
     trac_cell *cells = (trac_cell *)buffer(64 * sizeof *cells);
@@ -156,7 +156,8 @@ static int places(void) {
     return 0;
 }
 
-/* Whether a machine goes on where it was when it and its block were moved, together and alone, at each step. */
+/* Whether a machine goes on from the same state when it and its block were moved, together and separately, at each
+ * step. */
 static int moves(void) {
     static const char script[] = "#(ds,A,(x#(ps,-y)z))#(ss,A,y)#(cl,A,1)#(cl,A,2)#(ps,##(cc,A)#(ad,41,1))'";
     char wanted[64], printed[64];
@@ -251,7 +252,8 @@ static int traces(void) {
                 return 4;
         }
     }
-    /* A step that waits for input has no lines; where reading fails it ends the run, and tells so again. */
+    /* A step that waits for input has no lines. If reading fails, it ends the run, and each later step says so
+     * again. */
     for (int i = 0; i < 7; i++)
         told = trac_trace_step(&machine, &trace, NULL, 0, 0, NULL, 0, memory, sizeof memory, lines, sizeof lines);
     told = trac_trace_step(&machine, &trace, NULL, 0, 0, NULL, 0, memory, sizeof memory, lines, sizeof lines);
@@ -305,7 +307,7 @@ static int pointers(void) {
         !trac_next_form(&machine, &form) || trac_form_name(&form, byte, 4) != 1 || byte[0] != 'a' ||
         trac_form_codes(&form, crooked, 1) || trac_form_text(&form, NULL, 1) || trac_form_text(&form, NULL, 0) != 4)
         return 7;
-    /* A place in the list is no other machine's, and none after a turn. */
+    /* A place in the list is valid for no other machine, and is invalid after a turn. */
     memcpy(&other, &machine, sizeof other);
     if (trac_next_form(&other, &form) || trac_again(&machine, 99) || trac_form_name(&form, byte, 4) ||
         trac_next_form(&machine, &form))
@@ -323,7 +325,8 @@ static int pointers(void) {
            trac_abi(TRAC_VERSION_NUMBER + 1000, sizeof machine, sizeof(trac_report)) ||
            trac_abi(TRAC_VERSION_NUMBER, sizeof form - 1, sizeof(trac_report)) ||
            strcmp(trac_version(), TRAC_VERSION) || strcmp(trac_fate_name(TRAC_REFUSED), "refused") ||
-           strcmp(trac_fate_name(TRAC_NO_MEMORY), "no memory") || strcmp(trac_fate_name(11), "?") ||
+           strcmp(trac_fate_name(TRAC_NO_MEMORY), "no memory") ||
+           strcmp(trac_fate_name(TRAC_WANTS_ANSWER), "wants answer") || strcmp(trac_fate_name(12), "?") ||
            strcmp(trac_rule_name(TRAC_RULE_CHARACTER), "character")
                ? 3
                : 0;
@@ -390,7 +393,7 @@ static size_t neutral_of(void *to, size_t room) { return trac_neutral(seen, (uin
 
 static size_t active_of(void *to, size_t room) { return trac_active(seen, (uint32_t *)to, room); }
 
-/* Where a part of a string begins that is looked at. */
+/* The beginning of the part of a string that is examined. */
 static size_t part_from;
 
 static size_t neutral_part_of(void *to, size_t room) {
@@ -403,7 +406,7 @@ static size_t active_part_of(void *to, size_t room) {
 
 static size_t calls_of(void *to, size_t room) { return trac_calls(seen, (uint32_t *)to, room); }
 
-/* Whether a room of so many items gets the first of these, as many as fit, and nothing more. */
+/* Whether a room for a number of items gets the first of these, as many as fit, and nothing more. */
 static int fills(size_t (*lay)(void *, size_t), size_t size, const uint8_t *items, size_t len,
                  size_t room) {
     uint8_t *to = (uint8_t *)buffer(room * size);
@@ -415,7 +418,7 @@ static int fills(size_t (*lay)(void *, size_t), size_t size, const uint8_t *item
     return right;
 }
 
-/* All items that a function lays, of a size each, in a buffer that is to be freed. */
+/* All items that a function writes, each of a given size, in a buffer that the caller frees. */
 static uint8_t *laid(size_t (*lay)(void *, size_t), size_t size, size_t *len) {
     *len = lay(NULL, 0);
     uint8_t *items = (uint8_t *)buffer(*len * size);
@@ -441,7 +444,7 @@ static void tell_items(size_t (*lay)(void *, size_t), size_t size) {
     free(items);
 }
 
-/* Compares the parts of a string with the whole: from its front, its middle, its end and behind it. */
+/* Compares the parts of a string with the whole: from its front, from its middle, from its end and past it. */
 static void compare_parts(size_t (*whole)(void *, size_t), size_t (*part)(void *, size_t)) {
     size_t len, part_len;
     uint32_t *items = (uint32_t *)(void *)laid(whole, sizeof *items, &len);
@@ -470,7 +473,7 @@ static void tell_step(void) {
     compare_parts(active_of, active_part_of);
 }
 
-/* Compares the display of a form with what `pf` prints, where its name can be written in a call. */
+/* Compares the display of a form with what `pf` prints, if its name can be written in a call. */
 static void compare_display(void) {
     size_t name_len, text_len;
     uint8_t *name = laid(name_of, 1, &name_len), *text = laid(text_of, 1, &text_len);
@@ -535,7 +538,7 @@ static void view(uint64_t most) {
     free(seen);
 }
 
-/* The buffers of a run with an output of so many bytes. */
+/* The buffers of a run with an output of the given number of bytes. */
 static void begin(const uint8_t *script, size_t room) {
     run.room = room;
     run.block = (trac_cell *)buffer(run.cells > TRAC_MOST_CELLS ? 0 : run.cells * sizeof(trac_cell));

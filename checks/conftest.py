@@ -1,4 +1,5 @@
-"""Ends pytest's output with the line that the gate counts by; the package for Python, built once for a run."""
+"""Adds the line with the counts that the gate reads to the end of pytest's output, and builds the Python package once
+for a run."""
 import fcntl
 import os
 import sys

@@ -1,6 +1,7 @@
-/* Runs scripts by both engines of engines.h, as the fuzzer does, and trac_check, shown steps and the rest of trac.h. On
- * standard input stand the scripts, each behind its length, which has four bytes, the lowest first. Ends by a fault
- * where the engines differ, else prints how many scripts there were. */
+/* Runs scripts in both engines of engines.h, as the fuzzer does, and also by trac_check, by shown steps, with functions
+ * of the host, with forms from outside and their images, and by the rest of trac.h. Standard input has the scripts, each
+ * after its length, which has four bytes, the lowest first. Ends with a trap if the engines differ, and otherwise prints
+ * how many scripts there were. */
 #include "engines.h"
 
 #include <stdlib.h>
@@ -16,11 +17,25 @@ size_t c_trac_argument_count(const trac_machine *);
 size_t c_trac_argument(const trac_machine *, size_t, void *, size_t);
 trac_report c_trac_trace_step(trac_machine *, trac_trace *, const void *, size_t, int, void *, size_t, void *, size_t,
                               void *, size_t);
+trac_report c_trac_run_with(trac_cell *, size_t, uint64_t, void *, size_t, trac_reader, trac_writer, void *);
+uint32_t c_trac_moved(trac_machine *, trac_cell *);
+uint32_t c_trac_stop_at_unknown(trac_machine *, int);
+trac_report c_trac_answer(trac_machine *, const void *, size_t, uint32_t);
+size_t c_trac_printed(const trac_machine *, size_t, void *, size_t);
+trac_report c_trac_skip_print(trac_machine *);
+uint32_t c_trac_define(trac_machine *, const void *, size_t, const uint32_t *, size_t, size_t);
+uint32_t c_trac_define_text(trac_machine *, const void *, size_t, const void *, size_t);
+uint32_t c_trac_delete(trac_machine *, const void *, size_t);
+uint32_t c_trac_delete_all(trac_machine *);
+uint32_t c_trac_set_meta(trac_machine *, uint32_t);
+int c_trac_find_form(const trac_machine *, const void *, size_t, trac_form *);
+size_t c_trac_save(const trac_machine *, void *, size_t);
+uint32_t c_trac_load(trac_machine *, const void *, size_t);
 size_t c_trac_function_count(void);
 uint32_t c_trac_function(size_t, trac_function_facts *);
 size_t c_trac_function_text(size_t, uint32_t, void *, size_t);
 
-enum { CHOICES = 5, LONGEST = 1 << 16, UNITS_OF_MEMORY = 1 << 17, LINES = 1 << 16, TURNS = 200 };
+enum { CHOICES = 5, LONGEST = 1 << 16, UNITS_OF_MEMORY = 1 << 17, LINES = 1 << 16, TURNS = 200, STEP_OF_MEMORY = 264 };
 
 static uint64_t memory[2][UNITS_OF_MEMORY];
 static uint8_t script[LONGEST], lines[2][LINES];
@@ -32,9 +47,8 @@ static void must(int holds, const char *what) {
     }
 }
 
-/* What trac_check says, with little memory and room for lines now and then. */
-static void check_both(size_t count, size_t cells, uint64_t steps) {
-    const size_t length = script[2] < 20 ? script[2] * 200u : sizeof memory[0];
+/* What trac_check reports with so much memory. Gives whether that was enough. */
+static int check_both_in(size_t length, size_t count, size_t cells, uint64_t steps) {
     const size_t room = script[3] < 30 ? script[3] * 10u : LINES;
     const trac_report a = trac_check(proved.block, cells, steps, script + CHOICES, count - CHOICES, memory[0], length,
                                      lines[0], room);
@@ -42,6 +56,15 @@ static void check_both(size_t count, size_t cells, uint64_t steps) {
                                        lines[1], room);
     must(memcmp(&a, &b, sizeof a) == 0 && memcmp(lines[0], lines[1], a.written < room ? a.written : room) == 0,
          "trac_check");
+    return a.fate != TRAC_NO_MEMORY;
+}
+
+/* What trac_check reports; for some scripts with more and more memory, so that each list finds too little of it once. */
+static void check_both(size_t count, size_t cells, uint64_t steps) {
+    size_t length = script[2] < 30 ? script[3] % 128u : sizeof memory[0];
+    while (length < sizeof memory[0] && !check_both_in(length, count, cells, steps))
+        length += STEP_OF_MEMORY + length / 64;
+    check_both_in(sizeof memory[0], count, cells, steps);
 }
 
 /* A run in a block that is known to be zero. */
@@ -74,7 +97,7 @@ static void see_both(size_t room) {
     }
 }
 
-/* Opens both machines over blocks of zeros. Gives 0 where both are refused. */
+/* Opens both machines over blocks of zeros. Gives 0 if both are refused. */
 static int open_zeroed_both(size_t cells, uint64_t steps) {
     memset(proved.block, 0, sizeof proved.block);
     memset(in_c.block, 0, sizeof in_c.block);
@@ -98,6 +121,177 @@ static void again_both(size_t count, size_t cells, uint64_t steps) {
             must(trac_again(&proved.machine, steps) == c_trac_again(&in_c.machine, steps), "trac_again");
         }
     }
+}
+
+/* A number below `most`, which the script chooses. */
+static uint32_t chosen(uint32_t most) {
+    static uint32_t state;
+    state = (state ^ script[4]) * 1664525u + 1013904223u;
+    return (state >> 8) % most;
+}
+
+/* A part of the script, as a name or as a body. */
+static const uint8_t *part_of_script(size_t count, size_t most, size_t *length) {
+    const size_t from = CHOICES + chosen((uint32_t)(count - CHOICES) + 1);
+    *length = chosen((uint32_t)most + 1);
+    if (*length > count - from)
+        *length = count - from;
+    return script + from;
+}
+
+/* A name: mostly that of a form. */
+static size_t name_of_form(size_t count, uint8_t *name) {
+    trac_form form = TRAC_NO_FORM;
+    size_t forms = chosen((uint32_t)trac_form_count(&proved.machine) + 1), length;
+    for (size_t i = 0; i < forms; i++)
+        must(trac_next_form(&proved.machine, &form), "the forms");
+    if (forms > 0 && (length = trac_form_name(&form, name, MOST_OUTPUT)) <= MOST_OUTPUT)
+        return length;
+    const uint8_t *part = part_of_script(count, 5, &length);
+    memcpy(name, part, length);
+    return length;
+}
+
+/* A form of codes, now and then with one that is none, or with a pointer that is too great. */
+static void define_both(size_t count, const uint8_t *name, size_t length) {
+    static uint32_t codes[400];
+    size_t items;
+    const uint8_t *body = part_of_script(count, 400, &items);
+    for (size_t i = 0; i < items; i++)
+        codes[i] = body[i] % 7 == 0 ? 256 + chosen(3) : body[i];
+    if (items > 0 && chosen(4) == 0)
+        codes[chosen((uint32_t)items)] = chosen(2) ? 255u + 16777216u : 256u + 16777216u;
+    const size_t pointer = chosen((uint32_t)items + 2);
+    must(trac_define(&proved.machine, name, length, codes, items, pointer) ==
+             c_trac_define(&in_c.machine, name, length, codes, items, pointer), "trac_define");
+}
+
+/* The images of the forms, which another machine takes, or not: cut, changed, or into few cells. */
+static void save_both(size_t room) {
+    static side others[2];
+    const size_t length = trac_save(&proved.machine, lines[0], LINES), cells = chosen(3) ? MOST_CELLS : chosen(600);
+    must(c_trac_save(&in_c.machine, lines[1], LINES) == length, "the length of an image");
+    must(length > LINES || memcmp(lines[0], lines[1], length) == 0, "an image");
+    must(trac_save(&proved.machine, lines[1], room) == length, "the length of an image that doesn't fit");
+    memcpy(lines[1], lines[0], LINES);
+    size_t given = chosen(4) ? length : chosen((uint32_t)length);
+    if (given > LINES || given == 0)
+        return;
+    if (chosen(3) == 0)
+        lines[1][chosen((uint32_t)given)] ^= 1u << chosen(8);
+    must(trac_open(&others[0].machine, others[0].block, cells, 9) == 0 &&
+             c_trac_open(&others[1].machine, others[1].block, cells, 9) == 0, "trac_open");
+    must(trac_load(&others[0].machine, lines[1], given) == c_trac_load(&others[1].machine, lines[1], given),
+         "trac_load");
+    must(trac_form_count(&others[0].machine) == c_trac_form_count(&others[1].machine), "the forms of an image");
+    must(trac_load(&proved.machine, lines[1], given) == c_trac_load(&in_c.machine, lines[1], given), "trac_load");
+}
+
+/* A change of the forms from outside. */
+static void change_both(size_t count) {
+    static uint8_t name[MOST_OUTPUT];
+    size_t body;
+    const size_t length = name_of_form(count, name);
+    trac_form a, b;
+    must(trac_find_form(&proved.machine, name, length, &a) == c_trac_find_form(&in_c.machine, name, length, &b) &&
+             trac_form_pointer(&a) == c_trac_form_pointer(&b), "trac_find_form");
+    switch (chosen(8)) {
+    case 0:
+        must(trac_delete(&proved.machine, name, length) == c_trac_delete(&in_c.machine, name, length), "trac_delete");
+        break;
+    case 1: {
+        const uint32_t byte = chosen(300);
+        must(trac_set_meta(&proved.machine, byte) == c_trac_set_meta(&in_c.machine, byte), "trac_set_meta");
+        break;
+    }
+    case 2:
+        if (chosen(4) == 0)
+            must(trac_delete_all(&proved.machine) == c_trac_delete_all(&in_c.machine), "trac_delete_all");
+        break;
+    case 3:
+        save_both(script[3]);
+        break;
+    case 4:
+    case 5: {
+        const uint8_t *text = part_of_script(count, 400, &body);
+        must(trac_define_text(&proved.machine, name, length, text, body) ==
+                 c_trac_define_text(&in_c.machine, name, length, text, body), "trac_define_text");
+        break;
+    }
+    default:
+        define_both(count, name, length);
+    }
+    must(trac_moved(&proved.machine, proved.block) == c_trac_moved(&in_c.machine, in_c.block), "trac_moved");
+}
+
+/* A print that is taken in pieces. */
+static void print_both(void) {
+    const size_t room = script[3] % 9u + 1;
+    size_t from = 0, left;
+    do {
+        memset(lines[0], 0, room);
+        memset(lines[1], 0, room);
+        left = trac_printed(&proved.machine, from, lines[0], room);
+        must(c_trac_printed(&in_c.machine, from, lines[1], room) == left && memcmp(lines[0], lines[1], room) == 0,
+             "trac_printed");
+        from += room;
+    } while (left > room && from < 90);
+    const trac_report a = trac_skip_print(&proved.machine), b = c_trac_skip_print(&in_c.machine);
+    must(is_same(&a, &b), "trac_skip_print");
+}
+
+/* A session whose host gives values, prints in pieces and changes forms between turns. */
+static void host_both(size_t count, size_t cells, uint64_t steps) {
+    if (!open_both(cells, steps))
+        return;
+    must(trac_stop_at_unknown(&proved.machine, script[2] % 8u) == c_trac_stop_at_unknown(&in_c.machine, script[2] % 8u),
+         "trac_stop_at_unknown");
+    trac_report told = {TRAC_GOING, 0, 0, 0, 0, 0};
+    size_t at = CHOICES, length;
+    for (int turn = 0; turn < TURNS && told.fate != TRAC_INPUT_ENDED && told.fate != TRAC_HALTED; turn++) {
+        must(turn_both(script + at, count - at, script[4] % 4u, 1, chosen(60) + 1, &told), "a turn of a host");
+        at += told.consumed;
+        if (told.fate == TRAC_WANTS_OUTPUT)
+            print_both();
+        const uint8_t *value = part_of_script(count, script[4], &length);
+        const uint32_t how = chosen(9) == 0 ? 3 : chosen(3);
+        const trac_report a = trac_answer(&proved.machine, value, length, how);
+        const trac_report b = c_trac_answer(&in_c.machine, value, length, how);
+        must(is_same(&a, &b), "trac_answer");
+        if (chosen(3) == 0)
+            change_both(count);
+    }
+}
+
+/* What the functions of the host of trac_run_with read and write. */
+typedef struct {
+    size_t at, end, written, failing;
+} flow;
+
+static size_t read_some(void *context, void *to, size_t room) {
+    flow *given = context;
+    size_t length = script[3] % 7u + 1;
+    length = length < room ? length : room;
+    length = length < given->end - given->at ? length : given->end - given->at;
+    memcpy(to, script + given->at, length);
+    given->at += length;
+    return given->failing == given->at ? TRAC_FAILED : length;
+}
+
+static size_t write_some(void *context, const void *from, size_t length) {
+    flow *given = context;
+    const size_t taken = length < script[4] % 9u + 1u ? length : script[4] % 9u + 1u;
+    for (size_t i = 0; i < taken; i++)
+        given->written = given->written * 31 + ((const uint8_t *)from)[i];
+    return script[3] == 9 ? TRAC_FAILED : taken;
+}
+
+static void run_with_both(size_t count, size_t cells, uint64_t steps) {
+    flow one = {CHOICES, count, 0, script[3] % 4u == 0 ? CHOICES + script[4] : 0}, other = one;
+    const size_t room = script[4] < 99 ? script[4] : MOST_OUTPUT;
+    const trac_report a = trac_run_with(proved.block, cells, steps, proved.output, room, read_some, write_some, &one);
+    const trac_report b = c_trac_run_with(in_c.block, cells, steps, in_c.output, room, read_some, write_some, &other);
+    must(memcmp(&a, &b, sizeof a) == 0 && one.at == other.at && one.written == other.written, "trac_run_with");
 }
 
 /* The lines of steps, calls or forms, with little memory and room for lines now and then. */
@@ -159,6 +353,10 @@ int main(void) {
         run_zeroed_both(count, cells, steps);
         again_both(count, cells, steps);
         trace_both(count, cells, steps);
+        if (count > CHOICES) {
+            host_both(count, cells, steps);
+            run_with_both(count, cells, steps);
+        }
         scripts++;
     }
     printf("%ld\n", scripts);

@@ -1,5 +1,5 @@
-/* Two engines behind trac.h in one program: the proved library, whose names are those of the header, and the one in
- * C, whose names have c_ in front. What follows runs both on the same, and compares. */
+/* Two engines behind trac.h in one program: the proved library, whose names are those of the header, and the engine in
+ * C, whose names begin with c_. The functions below run both on the same input, and compare. */
 #ifndef ENGINES_H
 #define ENGINES_H
 

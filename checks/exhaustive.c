@@ -1,7 +1,7 @@
-/* exhaustive LENGTH PART PARTS LETTERS: runs every script of up to LENGTH bytes over #(),' and these letters by both
- * engines of engines.h: in every room from none to its peak and one more, with every allowance up to its steps, at
- * once, and by turns of one byte and one step. The scripts are dealt out to PARTS runs, and this is one of them.
- * Prints how many runs were made, and ends with 1 where some differ. */
+/* exhaustive LENGTH PART PARTS LETTERS: runs every script of up to LENGTH bytes over #(),' and these letters in both
+ * engines of engines.h: in every room from none to one more than its peak, and with every allowance up to its steps, in
+ * one run, and in turns of one byte and one step. The scripts are divided among PARTS processes, and this is one of
+ * them. Prints how many runs were made, and ends with 1 if some differ. */
 #include "engines.h"
 
 #include <stdlib.h>

@@ -1,12 +1,13 @@
-"""What the scripts of examples/ that read free text are given in its place, and what they print then:
-commas, calls, and parentheses that don't match are characters there as any other."""
+"""Inputs for the scripts of examples/ that read free text, and what the scripts then print: commas, calls and
+unbalanced parentheses are ordinary characters there."""
 import codecs
 
 TEXT = 'one, (two) #(ps,three) ) ( ,five'
 LINES = ['a, (b)', '#(ps,c)) (', ',', ')']
 
 # What reads no free text: numbers and signs, and words of small letters.
-OTHERS = ['broken/14-reads-always', 'calculator', 'sorting']
+OTHERS = ['broken/14-reads-always', 'broken/22-line-end-in-a-name', 'broken/23-line-end-in-an-answer',
+          'broken/26-capitals-in-an-answer', 'calculator', 'sorting']
 
 
 def turned(text):

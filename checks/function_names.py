@@ -1,6 +1,6 @@
 """function_names.py LIBRARY [--check]: writes the names of the functions, as the engine's table has them, into the
-editors' files and into the fuzzers' words; with --check it only says which of these files have other names. LIBRARY is
-the shared one that make builds."""
+files for editors and into the fuzzers' dictionary. With --check it only says which of these files have other names.
+LIBRARY is the shared library that make builds."""
 import ctypes
 import os
 import re

@@ -1,15 +1,18 @@
-"""The forms that a script leaves, through the engine as a shared library; and scripts that make stores of any kind."""
+"""Finds the forms that a script leaves, through the engine as a shared library, and makes scripts with random forms."""
 import ctypes
 import functools
 import os
 import random
 import subprocess
 import tempfile
+import zlib
+from struct import pack
 
 from trac import TOP
 
 CELLS, STEPS = 65536, 10**9
 INPUT_ENDED = 2
+FIRST_GAP = 256
 WORDS = ctypes.c_uint64 * 14
 
 
@@ -34,7 +37,8 @@ def library():
 
 
 def kept_by(found, script, cells=CELLS):
-    """The forms that a script leaves, each by its name, the codes of its body and its pointer; the meta character."""
+    """The forms that a script leaves, each with its name, the codes of its body and its pointer; and the meta
+    character."""
     machine, block, form = WORDS(), (ctypes.c_uint64 * cells)(), WORDS()
     printed = ctypes.create_string_buffer(1)
     if found.trac_open(machine, block, ctypes.c_size_t(cells), ctypes.c_uint64(STEPS)):
@@ -54,21 +58,37 @@ def kept_by(found, script, cells=CELLS):
 
 
 def sum_of(saved):
-    """The checksum of a saved session, FNV-1a with 64 bits over all bytes but for the digits that say it."""
+    """The checksum of a saved session, FNV-1a with 64 bits over all bytes except the digits of the checksum."""
     total = 0xcbf29ce484222325
     for byte in saved[:-20] + saved[-4:]:
         total = (total ^ byte) * 0x100000001b3 % 2**64
     return f'{total:016x}'
 
 
+def form_image(name, codes, pointer):
+    """A form as it stands in an image, with how many characters stand before each gap, behind the gap before it."""
+    characters = bytes(code for code in codes if code < FIRST_GAP)
+    gaps, since = b'', 0
+    for code in codes:
+        gaps += pack('<II', since, code - FIRST_GAP + 1) if code >= FIRST_GAP else b''
+        since = since + 1 if code < FIRST_GAP else 0
+    return pack('<IIII', len(name), len(codes), len(characters), pointer) + name + characters + gaps
+
+
+def image_of(forms, meta):
+    """The image of forms, as kept_by gives them, and a meta character."""
+    image = b'TRAC\1' + pack('<BI', meta, len(forms)) + b''.join(form_image(*form) for form in forms)
+    return image + pack('<I', zlib.adler32(image))
+
+
 def typed(text):
-    """Calls that read so many bytes one by one, and the bytes."""
+    """Calls that read a number of bytes one by one, and the bytes."""
     return '##(rc)' * len(text), text
 
 
 class Store:
-    """A script that makes a random store. Each byte of a name, a body and a text of a gap is read by `rc`, so that it
-    may be any."""
+    """A script that makes random forms. It reads each byte of a name, a body and the text of a gap by `rc`, so the byte
+    can be any."""
 
     def __init__(self, seed, alphabet):
         self.random, self.alphabet, self.script, self.meta = random.Random(seed), alphabet, b'', b"'"
@@ -77,7 +97,7 @@ class Store:
         return bytes(self.random.choice(self.alphabet) for _ in range(self.random.randint(0, most)))
 
     def call(self, pattern, *texts):
-        """Adds a string in which each text is read."""
+        """Adds a string that reads each text."""
         calls, bytes_read = zip(*map(typed, texts))
         self.script += pattern.format(*calls).encode() + self.meta + b''.join(bytes_read)
 
@@ -104,7 +124,7 @@ class Store:
         return self.script
 
 
-# Bytes of which stores are made: those that mean something to a script more often; those of words; all.
+# Bytes for forms: mostly those with a meaning in a script; those of words; all bytes.
 ALPHABETS = (b"()'#,;~\r\n\t\xffa0", b"()'", b'abc ~1(),', bytes(range(256)), b"()#,';!|`@&$%?:~^_*+=-/<>\"019\x00\xe9")
 
 

@@ -34,16 +34,16 @@ for (const [name, call] of Object.entries({
     input: async () => (await Session.open()).turn(null),
     how: async () => (await Session.open()).turn('', { end: true }),
     most: async () => (await Session.open()).turn('', { most: -1 }),
-    saved: async () => {
+    snapshot: async () => {
         const session = await Session.open({ cells: 10 });
-        session.restore({ ...session.save(), machine: new Uint8Array(3) });
+        session.rewind({ ...session.snapshot(), machine: new Uint8Array(3) });
     },
     from: async () => (await Session.open()).neutralPart(-1),
     which: async () => (await Session.open()).argument(-1),
     whichText: async () => (await Session.open()).argument('0'),
-    savedPages: async () => {
+    snapshotPages: async () => {
         const session = await Session.open({ cells: 10 });
-        session.restore({ ...session.save(), pages: [{ place: 1, words: new Uint32Array(20) }] });
+        session.rewind({ ...session.snapshot(), pages: [{ place: 1, words: new Uint32Array(20) }] });
     },
 })) {
     errors[name] = await errorOf(call);
@@ -203,7 +203,7 @@ const json = JSON.parse(JSON.stringify(await run("#(ps,hello)'")));
 const before = await Session.open({ cells: 10 });
 const other = await Session.open({ cells: 10 });
 other.turn('abc', { ended: true });
-before.restore(other.save());
+before.rewind(other.snapshot());
 console.log(JSON.stringify({
     errors, looks, longCalls, traces, controls, manyControls, suspicions, endless, many: many.warnings.length, needs,
     failed, again, kept, buffer, mark, parts, large: large.output.length, json,

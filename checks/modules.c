@@ -1,5 +1,5 @@
-/* Calls the functions of made-up modules, which test_generator.py translates and puts in front of this, and prints what
- * each gives and what becomes of the memory that it is lent. */
+/* Calls the functions of random modules, which test_generator.py translates and puts before this, and prints the result
+ * of each and the memory that it was given. */
 #include <setjmp.h>
 #include <signal.h>
 #include <stdio.h>

@@ -1,7 +1,7 @@
-"""new_function.py: adds a made-up function to a copy of the tree, by the rows of ARCHITECTURE's section "Where a
-function is named" alone, has the kit prove and build the engine with it, and finds it in the programs in C, the package
-for Python, the module for JavaScript, the page and the editors' files. `make new-function` runs it: some 20 minutes,
-for the crates are proved once more, so the gate leaves it out."""
+"""new_function.py: adds a made-up function to a copy of the tree, only at the places in the rows of ARCHITECTURE's
+section "Where a function is named". Then it has the kit prove and build the engine, and checks that the function is
+found in the programs in C, the package for Python, the module for JavaScript, the page and the editors' files. `make
+new-function` runs it. It takes about 20 minutes, because the crates are proved once more, so the gate leaves it out."""
 import glob
 import os
 import re
@@ -18,10 +18,10 @@ LANGUAGE = 'crates/trac_language'
 FUNCTIONS = 'crates/trac_functions'
 VARIANTS = 'use Rattle.trac_language.specs.declared.function.Function.TheVariants'
 
-# The number of functions stands here.
+# The files with the number of functions.
 COUNTED = [f'{LANGUAGE}/src/table.rt', f'{LANGUAGE}/proofs/table/function_at/Answers.antt', 'checks/test_editors.py',
            'checks/test_cheat_sheet.py']
-# `id,X`, whose value is X: what each file gets, in front of a text that stands once in it.
+# `id,X`, whose value is X: the text that each file gets, before a text that occurs once in it.
 ADDED = [
     (f'{LANGUAGE}/src/function.rt', '    /// `eq`: asks', '    /// `id`: gives a text.\n    Identity,\n'),
     (f'{LANGUAGE}/src/table.rt', '    Function::Equal,\n', '    Function::Identity,\n'),
@@ -86,6 +86,10 @@ returns-clause-makes c = λ name.
     ('crates/trac_table_laws/proofs/Values.antt', 'few function.Equal',
      'few function.Identity args w n e = of-count 1 n (Few function.Identity args w) e '
      '(rw (argument-take args 1 2 (omega arith)) refl)\n'),
+    ('crates/trac_events/src/source.rt', '        Function::Equal =>',
+     '        Function::Identity => ValueSource::Argument(1),\n'),
+    ('crates/trac_events/specs/Sources.antt', 'function_source function.Equal',
+     'function_source function.Identity args forms = Argument 1\n'),
     ('conformance/functions.cases', 'name: a string read in a string\n', '''\
 name: a text given
 input: [#(id,one,two)]'
@@ -141,7 +145,7 @@ def add(place):
 
 
 def places(rows):
-    """A pattern for each place that a row names; those behind a crate's name alone are within that crate."""
+    """A pattern for each place that a row names; a place after the name of a crate is within that crate."""
     for row in rows.splitlines():
         crate = ''
         for told in re.findall(r'`([^`]+)`', row.split(' | ')[0]):
@@ -155,7 +159,7 @@ def places(rows):
 
 
 def untold(place):
-    """The files that are added to and that no row names."""
+    """The files that are changed and that no row names."""
     rows = ROWS.search(read(place, 'docs/ARCHITECTURE.md'))[1]
     if rows.count('\n') > 9:
         raise SystemExit('new_function: there are more than nine rows')
@@ -169,7 +173,7 @@ def run(place, *words, said=None):
 
 
 def find(place):
-    """Tells where the function isn't found."""
+    """Says where the function isn't found."""
     library = glob.glob(os.path.join(place, 'build', 'libtrac.so.*'))[0]
     found = {
         'the program': run(place, 'build/trac', said="[#(id,one,two)#(ID,three)]'") == '[onethree]',

@@ -1,5 +1,4 @@
-"""build/trac.html in Chromium, for the checks of the page: a page that was just opened, and what one does
-to it."""
+"""Opens build/trac.html in Chromium for the checks of the page, and does what a user of the page does."""
 import os
 import re
 import sys
@@ -8,7 +7,7 @@ import unittest
 
 from trac import TOP, make
 
-# Where Debian puts what belongs to no Python of one's own.
+# Where Debian installs packages for its own Python.
 sys.path.append('/usr/lib/python3/dist-packages')
 from selenium import webdriver  # noqa: E402
 from selenium.webdriver.common.by import By  # noqa: E402
@@ -21,7 +20,7 @@ MARKS = {256: '<#>', 257: '<##>', 258: '<,>'}
 ESCAPES = {9: '\\t', 10: '\\n', 13: '\\r', 92: '\\\\'}
 LOOP = "#(ds,loop,(#(gr,N,0,(#(cl,loop,#(su,N,1))))))#(ss,loop,N)#(cl,loop,{})'"
 
-# What a box shows, as codes: marks and escaped bytes by their own, text as UTF-8.
+# The content of a box, as codes: marks and escaped bytes have their own codes, text is UTF-8.
 CODES = """
     const found = [];
     const walk = (node) => {
@@ -34,9 +33,40 @@ CODES = """
     return found;
 """
 
+# A fixed piece of work of the kinds that the page does: a loop, and a text of many parts that is laid out. Gives the
+# median of nine times, in milliseconds.
+REFERENCE = """
+    const times = [];
+    while (times.length < 9) {
+        const start = performance.now();
+        const box = document.createElement('div');
+        box.style.cssText = 'position: absolute; visibility: hidden; width: 600px';
+        let sum = 1;
+        for (let turn = 0; turn < 2000000; turn += 1) sum = (sum * 31 + turn) % 1000003;
+        for (let part = 0; part < 400; part += 1) {
+            const mark = document.createElement('span');
+            mark.textContent = `part ${part + sum} `;
+            box.append(mark);
+        }
+        document.body.append(box);
+        box.getBoundingClientRect();
+        box.remove();
+        times.push(performance.now() - start);
+    }
+    return times.sort((one, other) => one - other)[4];
+"""
+# What it takes on the machine for which the limits of the timed checks were chosen, when that machine is idle.
+REFERENCE_TIME = 18
+
+
+def slowness():
+    """How many times as long as on that machine the page takes now, at least 1. A limit is multiplied by it, so that a
+    slow or a busy machine fails no check, and a page that became slower does."""
+    return max(1, browser.execute_script(REFERENCE) / REFERENCE_TIME)
+
 
 def start(watches=False):
-    """Opens a browser for the tests of a file; one that is watched logs what it asks for."""
+    """Opens a browser for the tests of a file; a watched browser logs its requests."""
     global browser
     make('page')
     options = webdriver.ChromeOptions()
@@ -70,7 +100,7 @@ class Page(unittest.TestCase):
         self.open(PLACE)
 
     def open(self, place, keeps=False):
-        """Opens the page, as at a first visit unless it keeps what was typed."""
+        """Opens the page, as at a first visit unless `keeps` says to keep what was typed."""
         browser.get('about:blank')
         if not keeps:
             browser.execute_cdp_cmd('Storage.clearDataForOrigin', {
@@ -80,7 +110,7 @@ class Page(unittest.TestCase):
         self.assertGreater(self.script("return document.getElementById('example').length"), 1)
 
     def open_without(self, before):
-        """Opens the page after a script that takes something away from the browser."""
+        """Opens the page after a script that removes something from the browser."""
         made = browser.execute_cdp_cmd('Page.addScriptToEvaluateOnNewDocument', {'source': before})
         try:
             self.open(PLACE)
@@ -127,7 +157,7 @@ class Page(unittest.TestCase):
             "return document.getElementById('calls').dataset.listed") == 'all')
 
     def steps(self):
-        """The steps done, and those of the whole run."""
+        """The number of steps done, and the number of steps of the whole run."""
         return tuple(int(number.replace(',', ''))
                      for number in re.findall(r'[\d,]+', self.text('count')))
 
@@ -137,7 +167,7 @@ class Page(unittest.TestCase):
         self.assertEqual(self.steps()[0], step)
 
     def walk(self, text):
-        """What a piece of JavaScript gives at each step from the first to the last."""
+        """The value of a piece of JavaScript at each step, from the first to the last."""
         return self.script("""
             const find = (id) => document.getElementById(id);
             const look = new Function('find', `return ${arguments[0]}`);
@@ -158,7 +188,7 @@ class Page(unittest.TestCase):
 
 
 class Lecture(Page):
-    """One that is used by more of its controls."""
+    """A page with methods for more of its controls."""
 
     def choose(self, name, control='example'):
         self.script('const choice = document.getElementById(arguments[0]); choice.value = arguments[1];'
@@ -168,7 +198,7 @@ class Lecture(Page):
         return self.find(name).get_property('value')
 
     def type(self, text):
-        """Types behind what stands in the box of the script."""
+        """Types after the text in the script's box."""
         self.find('script').send_keys(Keys.CONTROL, Keys.END)
         self.find('script').send_keys(text)
 
@@ -193,7 +223,7 @@ class Lecture(Page):
 
 
 class Saving(Lecture):
-    """One that saves files, into a folder of its own."""
+    """A page that saves files, into its own folder."""
 
     def setUp(self):
         super().setUp()
@@ -205,7 +235,8 @@ class Saving(Lecture):
     def saved(self, control, name):
         path = os.path.join(self.folder.name, name)
         self.press(control)
-        self.wait(lambda: os.path.exists(path))
+        # the browser may make an empty file first, and then puts the whole one in its place
+        self.wait(lambda: os.path.exists(path) and os.path.getsize(path))
         with open(path, 'rb') as file:
             content = file.read()
         os.remove(path)

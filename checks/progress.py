@@ -1,7 +1,7 @@
-"""progress.py CRATE COMMAND ..: runs a command of rt in a crate's folder, or at the top for '.', and shows how far
-it is: which crate, how many of them so far, how many functions of it, and the time since the beginning. At a terminal
-that is one line that is rewritten, else a line for each crate. All that rt writes stands in build/rt.log, and is shown
-where rt fails."""
+"""progress.py CRATE COMMAND ..: runs a command of rt in a crate's folder, or at the top for '.', and shows its
+progress: the current crate, the number of crates so far, the number of functions of the crate, and the time since the
+beginning. At a terminal this is one line that is rewritten, elsewhere a line for each crate. The whole output of rt is
+in build/rt.log; it is shown if rt fails."""
 import os
 import re
 import subprocess
@@ -12,12 +12,12 @@ TOP = os.path.dirname(os.path.dirname(os.path.abspath(__file__)))
 LOG = os.path.join(TOP, 'build', 'rt.log')
 CRATE = re.compile(r'(?:fn|struct|enum|impl) (trac_\w+)::|(\w+): (?:begins with|its tests|trying)|== (\w+)')
 SO_FAR = re.compile(r'so far: (\d+ of \d+) functions')
-# What is shown as it stands: errors, and what `rt ci` says of a crate, an edit and the whole.
+# Lines that are shown unchanged: errors, and the results of `rt ci` for a crate, an edit and the whole.
 SHOWN = re.compile(r'error|rt: (?!note|rt )|.*(?:NOT PROVED|NOT REFUSED|BAD EDIT|passed)')
 
 
 def crates(above):
-    """A crate and those that it stands on, all for '.'."""
+    """A crate and those that it depends on; all crates for '.'."""
     with open(os.path.join(TOP, 'crates.txt'), encoding='utf-8') as lines:
         rows = [line.split('#')[0].split(':') for line in lines]
     uses = {row[0].split()[0]: row[1].split() for row in rows if len(row) == 2}
@@ -31,14 +31,14 @@ def crates(above):
 
 
 class Line:
-    """The line that tells how far the command is."""
+    """The line that shows how far the command is."""
 
     def __init__(self, name):
         self.begun, self.crates, self.seen = time.monotonic(), crates(name), []
         self.functions, self.shown = '', None
 
     def take(self, line):
-        """Notes what a line of rt tells."""
+        """Records what a line of rt says."""
         if found := CRATE.match(line):
             name = next(filter(None, found.groups()))
             if name in self.crates and name not in self.seen:
@@ -48,7 +48,7 @@ class Line:
             self.functions = f', {found[1]} functions'
 
     def show(self):
-        """Shows the line, at a terminal at each call."""
+        """Shows the line; at a terminal, at each call."""
         passed, name = int(time.monotonic() - self.begun), self.seen[-1] if self.seen else ''
         text = (f'{name or "beginning"}, {len(self.seen)} of {len(self.crates)} crates{self.functions}, '
                 f'{passed // 60}:{passed % 60:02} so far')

@@ -1,4 +1,4 @@
-"""The package for Python, built and installed offline into folders of a check's own, and run there."""
+"""Builds the package for Python, installs it offline into temporary folders of a check, and runs it there."""
 import os
 import shutil
 import subprocess
@@ -12,14 +12,14 @@ BUILT = shutil.ignore_patterns('build', 'dist', '*.egg-info', '__pycache__', '*.
 
 
 def copy_sources(to):
-    """Copies what the package is built from, and gives the folder of the package."""
+    """Copies the files that the package is built from, and gives the folder of the package."""
     for name in ('c', 'python'):
         shutil.copytree(os.path.join(TOP, 'hosts', name), os.path.join(to, name), ignore=BUILT)
     return os.path.join(to, 'python')
 
 
 def call(words, **more):
-    """Runs a command that has to end well, and gives what it wrote."""
+    """Runs a command that must succeed, and gives its output."""
     done = subprocess.run(words, capture_output=True, text=True, timeout=120, check=False, **more)
     if done.returncode:
         raise AssertionError(done.stdout + done.stderr)

@@ -1,9 +1,9 @@
-"""Makes up WebAssembly modules, as text, of the instructions that it is told. They stand for the engine's own: a stack
-that grows down from where the tables begin, tables with words that are addresses of tables, and functions over memory
-that their caller lends. None has a result that depends on where something lies.
+"""Makes random WebAssembly modules, as text, from given instructions. They resemble the engine: a stack that grows down
+from where the tables begin, tables with words that are addresses of tables, and functions over memory that their caller
+provides. No result depends on an address.
 
-Each function takes the place of 256 bytes, an i32 and an i64, and gives an i64. The first of a module only reads its
-bytes, so that it can be handed tables. Each division has a divisor that is now and then 0, and each loop ends."""
+Each function takes the address of 256 bytes, an i32 and an i64, and gives an i64. The first function of a module only
+reads its bytes, so that it can be called with a table. Each divisor is sometimes 0, and each loop ends."""
 import re
 import textwrap
 
@@ -14,26 +14,26 @@ EDGES = {kind: [0, 1, 2, 7, 8, 15, 16, 31, 32, 63, 64, 127, 128, 255, 256, 65535
 TWO, COMPARED = 'add sub mul and or xor shl shr_s shr_u', 'eq ne lt_s lt_u gt_s gt_u le_s le_u ge_s ge_u'
 DIVIDED = 'div_s div_u rem_s rem_u'
 KINDS = ('i32', 'i64')
-# What each instruction that makes a number takes and makes.
+# The operands and the result of each instruction that makes a number.
 NUMBERS = {f'{kind}.{name}': ((kind, kind), kind) for kind in KINDS for name in f'{TWO} {DIVIDED}'.split()}
 NUMBERS |= {f'{kind}.{name}': ((kind, kind), 'i32') for kind in KINDS for name in COMPARED.split()}
 NUMBERS |= {f'{kind}.{name}': ((kind,), made) for kind in KINDS for name, made in (
     ('eqz', 'i32'), ('clz', kind), ('extend8_s', kind))}
 NUMBERS |= {'i32.wrap_i64': (('i64',), 'i32'), 'i64.extend_i32_u': (('i32',), 'i64')}
 ACCESS = re.compile(r'(i32|i64)\.(load|store)(8|16|32|)(?:_[su])?')
-# What stands in each module, whatever is made up.
+# The part that all modules have.
 LOCALS = ('buffer', 'a', 'b', 'x', 'y', 'n0', 'n1', 'p', 'q', 'frame')
 CONTROL = frozenset('''block loop if else end br br_if br_table return call unreachable drop select local.get local.set
     local.tee global.get global.set memory.copy memory.fill i32.const i64.const'''.split())
 
 
 def can_test(name):
-    """Whether modules with this instruction can be made up."""
+    """Whether modules with this instruction can be made."""
     return name in NUMBERS or name in CONTROL or ACCESS.fullmatch(name) is not None
 
 
 class Maker:
-    """Makes a module. `counts` has how often each instruction was taken before: rare ones are taken sooner."""
+    """Makes a module. `counts` has how often each instruction was used before: rare ones are used more often."""
 
     def __init__(self, random, number, instructions, counts):
         self.random, self.number, self.counts = random, number, counts
@@ -57,7 +57,7 @@ class Maker:
     # ---- Numbers
 
     def number_of(self, kind, depth=0):
-        """The text of what makes a number."""
+        """The text of code that makes a number."""
         if depth > 4 or self.chance(4):
             return self.leaf(kind)
         make = self.random.choice([self.operation] * 6 + [self.load] * 3 + [
@@ -71,7 +71,7 @@ class Maker:
         return f"(local.get ${self.random.choice('axy' if kind == 'i32' else 'bpq')})"
 
     def reckoned(self, kind, levels):
-        """A number of numbers of numbers, so many levels of them."""
+        """An expression that makes a number from numbers, with a given number of levels."""
         return self.operation(kind, levels - 1, self.reckoned) if levels else self.leaf(kind)
 
     def operation(self, kind, depth, make=None):
@@ -84,7 +84,7 @@ class Maker:
         return f"({name} {' '.join(given)})"
 
     def compared(self, kind, _=0):
-        """What is reckoned from two comparisons, so short that C has it in one expression."""
+        """A computation from two comparisons, so short that C has it in one expression."""
         whole = [name for name in self.numbers['i32'] if NUMBERS[name][0] == ('i32', 'i32')]
         tests = [name for name in whole if name.split('.')[1] in COMPARED.split()]
         sums = [name for name in whole if name.split('.')[1] in TWO.split()]
@@ -125,7 +125,7 @@ class Maker:
         return text if kind == 'i64' else f'(i32.wrap_i64 {text})'
 
     def difference(self, kind, depth):
-        """What lies between two places."""
+        """The difference of two places."""
         place = '(i64.const {tables})' if self.chance(2) or not self.frame else '(local.get $frame)'
         text = f'(i64.sub (i64.add {place} {self.below(40, depth)}) {place})'
         if place.startswith('(local'):
@@ -143,7 +143,7 @@ class Maker:
         return masked if self.chance(2) else f'(local.tee $q {masked})'
 
     def place(self, size, depth):
-        """A place of so many bytes, of the caller or in the frame."""
+        """A place with room for a number of bytes, in the caller's memory or in the frame."""
         place = '$frame' if self.frame and self.chance(3) else '$buffer'
         if self.chance(4):
             return f'(local.get {place})'
@@ -156,8 +156,8 @@ class Maker:
         return f"({name} offset={self.random.randrange(BUFFER // 2)} {self.place(8, depth)})"
 
     def load_of_tables(self, kind, name, depth):
-        """A load from the bytes of the tables, of one of their numbers, or behind one of their addresses, which may be
-        reckoned from a place before the first of them."""
+        """A load from the bytes of the tables, of one of their numbers, or relative to one of their addresses, which
+        may be computed from a place before the first of them."""
         row = f"(i64.and {self.number_of('i64', depth)} (i64.const {WORDS - 1}))"
         words, before = self.words_at, self.random.choice((0, 0, 1, 3))
         if self.chance(3) and kind == 'i64':
@@ -196,7 +196,7 @@ class Maker:
         return f'({name} {offset} {self.place(8, depth)} {self.number_of(name[:3], depth)})'
 
     def kept(self, _):
-        """Puts what is reckoned from what the caller gave, of numbers alone, where the caller sees it."""
+        """Stores a value computed from the caller's numbers alone, where the caller sees it."""
         number = self.compared('i64') if self.chance(3) else self.reckoned('i64', self.random.randint(2, 4))
         if self.only_reads:
             return f'(local.set $q (i64.add (local.get $q) {number}))'
@@ -227,7 +227,7 @@ class Maker:
             f"(i32.eq (i32.and {self.number_of('i32', depth)} (i32.const 7)) (i32.const {self.random.randrange(8)}))")
 
     def left(self, depth):
-        """Leaves a block, begins a loop again, or returns."""
+        """Leaves a block, repeats a loop, or returns."""
         if self.labels and not self.chance(4):
             label = self.random.choice(self.labels)
             if self.chance(2):
@@ -257,7 +257,7 @@ class Maker:
         return f'(block {name} {self.within(name, depth)})'
 
     def loop(self, depth):
-        """A loop of a few rounds, however it is begun again."""
+        """A loop of a few iterations, repeated in one of several ways."""
         if self.loops == 2:
             return self.block(depth)
         counter, name, end = f'$n{self.loops}', self.name(), self.name()
@@ -275,7 +275,7 @@ class Maker:
         return f'(if {self.condition(depth)} (then {self.statements(2, depth)}) {other})'
 
     def table(self, depth):
-        """Blocks of which a table of branches leaves one."""
+        """Blocks, one of which a table of branches leaves."""
         names = [self.name() for _ in range(self.random.randint(1, 3))]
         targets = self.random.choices(names + self.labels, k=self.random.randint(2, 6))
         of = self.number_of('i32', depth)
@@ -289,7 +289,7 @@ class Maker:
     # ---- Functions
 
     def lowered(self):
-        """Takes a frame of the stack, in one of the shapes of compilers."""
+        """Allocates a stack frame, in one of the shapes that compilers use."""
         if not self.frame:
             return ''
         by = self.random.choice((f'(i64.sub (global.get $__stack_pointer) (i64.const {self.frame}))',
@@ -326,12 +326,12 @@ class Maker:
                          random.randbytes(72)))
 
     def module(self):
-        """The text of the module, in which places of the tables stand in braces."""
+        """The text of the module, with places in the tables in braces."""
         return '\n'.join(self.function(k) for k in range(self.random.randint(2, 3)))
 
 
 def placed(text, tables, at):
-    """A module of these functions, whose tables, `tables(at)`, stand at a place."""
+    """A module of these functions, whose tables, `tables(at)`, are at a place."""
     table = tables(at)
     text = re.sub(r'\{tables(?:\+(\d+))?\}', lambda found: str(at + int(found[1] or 0)), text)
     data = ''.join(f'\\{byte:02x}' for byte in table)

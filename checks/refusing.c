@@ -1,5 +1,5 @@
-/* Stands before the allocator of the C library. Each request's size goes as a line to the file
-   descriptor that REQUESTS names; the request whose number, from 1, is REFUSED is refused. */
+/* Is loaded before the allocator of the C library. Each request's size is written as a line to the file descriptor in
+ * REQUESTS; the request whose number, from 1, is REFUSED is refused. */
 #include <errno.h>
 #include <stdio.h>
 #include <stdlib.h>

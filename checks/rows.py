@@ -19,7 +19,7 @@ def unescaped(text):
 
 
 def worked():
-    """The scripts that were worked by hand."""
+    """The scripts whose results were worked out by hand."""
     def source(name):
         with open(os.path.join(TOP, 'crates/trac_tests/src', name), encoding='utf-8') as file:
             return file.read()
@@ -39,8 +39,8 @@ def examples():
 
 @functools.cache
 def rows():
-    """Scripts, and the words for each; those of the examples, of the manual, and the worked ones,
-    in ample room, in a room of one cell too few, and with one step too few."""
+    """Scripts, and the options for each: the examples, the scripts of the manual, and the worked scripts, in ample
+    room, with one cell too few, and with one step too few."""
     scripts = [script.encode() for script in worked()]
     scripts += [script[:-1].encode() for script, _ in PAIR.findall(manual())]
     scripts += [script.encode() for script in SCRIPTS] + list(examples()) + [b"\xff\x00'"]
@@ -55,7 +55,7 @@ def rows():
 
 
 class Row:
-    """A script, a room and an allowance, and what `trac` does then."""
+    """A script, a room and an allowance, and what `trac` does with them."""
 
     def __init__(self, script, cells, allowed, output, steps, peak, status):
         self.script, self.cells, self.allowed = script, cells, allowed

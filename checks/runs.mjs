@@ -56,19 +56,19 @@ async function keptForms() {
 /** A session that waits for input, gets some, and is made again what it was. */
 async function restored() {
     const session = await Session.open({ cells: 1000 });
-    const fresh = session.save();
+    const fresh = session.snapshot();
     const told = [session.turn("#(ps,a##(rs))'").fate];
-    const saved = session.save();
+    const saved = session.snapshot();
     const shown = seen(session);
     for (const text of ["x'", "y'"]) {
         told.push(session.turn(text, { ended: true }).text);
-        session.restore(saved);
+        session.rewind(saved);
     }
-    session.restore(fresh);
+    session.rewind(fresh);
     told.push(session.turn("#(ps,#(rc))'z", { ended: true }).text);
     const other = await Session.open({ cells: 999 });
     try {
-        other.restore(saved);
+        other.rewind(saved);
     } catch (error) {
         told.push(error.name);
     }

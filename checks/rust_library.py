@@ -1,4 +1,4 @@
-"""The crate for Rust as a library behind trac.h, for the checks that compare it with other engines."""
+"""Builds the crate for Rust as a library behind trac.h, for the checks that compare it with other engines."""
 import glob
 import os
 import shutil
@@ -33,15 +33,20 @@ def run_program():
 
 
 def erased(folder):
-    """Puts the modules of crates/trac_c without their contracts beside lib.rs in a folder, and names them there."""
+    """Puts the modules of crates/trac_c, and the one of trac_image that they use, without their contracts beside lib.rs
+    in a folder, and names them there."""
     with open(os.path.join(folder, 'lib.rs'), 'a', encoding='utf-8') as root:
-        for path in sorted(glob.glob(os.path.join(TOP, 'crates', 'trac_c', 'src', '*.rt'))):
+        crates = os.path.join(TOP, 'crates')
+        for path in (*sorted(glob.glob(os.path.join(crates, 'trac_c', 'src', '*.rt'))),
+                     os.path.join(crates, 'trac_image', 'src', 'buffer.rt')):
             name = os.path.basename(path)[:-3]
-            if name not in ('lib', 'check', 'stepping', 'trace'):
+            if name not in ('lib', 'check', 'source', 'stepping', 'trace'):
                 root.write(f'mod {name};\n')
                 with open(path, encoding='utf-8') as source, \
                         open(os.path.join(folder, f'{name}.rs'), 'w', encoding='utf-8') as file:
-                    file.write(erase(source.read()).replace('use trac_space::', 'use crate::cells::'))
+                    file.write(erase(source.read()).replace('use trac_space::', 'use crate::cells::')
+                               .replace('use trac_checker::', 'use crate::checker::')
+                               .replace('use trac_image::put', 'use crate::buffer::put'))
 
 
 def library(folder):

@@ -1,11 +1,13 @@
-"""Scripts by the grammar of the language: calls of each function with forms, gaps, numbers of all lengths, bit strings
-and many forms, in ample and in little room, for covering.c."""
+"""Makes scripts from the grammar of the language, for covering.c: calls of each function with forms, gaps, numbers of
+all lengths, bit strings and many forms, in ample and in little room."""
 from random import Random
 from struct import pack
 
 FUNCTIONS = dict(zip('ds ss cl cs cc cn in cr dd da ln pf ps rs rc cm eq gr ad su ml dv bu bi bc bs br hl zz'.split(),
                      (9, 9, 9, 4, 6, 5, 5, 3, 3, 1, 3, 3, 6, 1, 1, 1, 4, 5, 5, 5, 5, 5, 3, 3, 3, 3, 3, .3, 1)))
-NAMES = ['A', 'l', 'F', 'name', 'N', '', 'B1', 'longer name', 'AB', 'Ab', 'x']
+LONG = 'a name that is longer than any name of a form in an example ' * 2
+NAMES = ['A', 'l', 'F', 'name', 'N', '', 'B1', 'longer name', 'AB', 'Ab', 'x',
+         *(LONG[:length] + end for length in (31, 70) for end in ('', 'b'))]
 PARTS = ['', 'a', '-', 'ab', 'b', '1', '2', '0', 'X']
 LENGTHS = (0, 1, 2, 3, 5, 9, 10, 17, 18, 19, 20, 21, 38, 39, 40, 41, 60)
 EDGES = [2**63, 2**63 - 1, 2**64, 2**64 - 1, 10**18, 10**19, 2**127, 2**127 - 1, 2**128 - 1, 10**38]
@@ -42,7 +44,8 @@ class Grammar:
         return self.pick(made)() if depth < DEEPEST else self.pick(PARTS)
 
     def arguments(self, name, depth):
-        """Those of a call of a function: numbers, bit strings or the name of a form where it wants them, mostly."""
+        """The arguments of a call of a function: numbers, bit strings or the name of a form where it takes them,
+        mostly."""
         count = self.pick((0, 1, 2, 2, 3, 3, 4, 5, 6, 9))
         kind = self.number if name in ('ad', 'su', 'ml', 'dv', 'gr') else self.bits if name[0] == 'b' else None
         if kind:
@@ -58,7 +61,7 @@ class Grammar:
         return '#' * self.pick((1, 1, 1, 2)) + f"({','.join(words)}" + self.pick((')',) * 30 + ('',))
 
     def forms(self):
-        """Many forms, found, deleted and defined again."""
+        """Many forms, which are found, deleted and defined again."""
         count = self.pick((9, 12, 20, 40, 90, 200))
         made = ''.join(f'#(ds,f{i % 97},{self.pick(("v", "a-b", "", "xyz" * 5))})' for i in range(count))
         for _ in range(self.pick(range(60))):
@@ -68,13 +71,13 @@ class Grammar:
         return made
 
     def gaps(self):
-        """A form with gaps, called, and taken apart."""
+        """A form with gaps, which is called and taken apart."""
         filled = ','.join(self.argument(1) for _ in range(3))
         return (f"#(ds,F,{self.text(1)}-{self.text(1)}X{self.text(1)})#(ss,F,-,X,a,ab)#(cl,F,{filled})#(cs,F)#(cc,F)"
                 "#(cn,F,2)#(in,F,a,Z)#(cr,F)#(pf,F)'")
 
     def script(self):
-        """The bytes of a script, now and then with some that are wrong."""
+        """The bytes of a script, sometimes with wrong bytes."""
         made = ''.join(self.pick((self.call, self.call, self.call, lambda: self.text(0)))()
                        + self.pick(('', '', "'", "'", '\n')) for _ in range(self.pick((1, 2, 4, 8, 16))))
         begin = self.pick((self.forms, self.gaps, str, str, str, str, str))()
@@ -92,11 +95,11 @@ class Grammar:
 
 
 def framed(given):
-    """A script as covering.c reads it, behind its length."""
+    """A script as covering.c reads it, after its length."""
     return pack('<I', len(given)) + given
 
 
 def made(seed, count):
-    """So many scripts."""
+    """A number of scripts."""
     grammar = Grammar(seed)
     return [(grammar.choices() + grammar.script())[:LONGEST] for _ in range(count)]

@@ -1,6 +1,6 @@
-"""The block is all: no body of the engine's crates takes memory, but for making a block, or has an array, but for one
-byte of a device and the buffers of devices, which only a caller makes. Constants and tests aside; a copy of a constant
-array would be one."""
+"""The block is the only memory: no function of the engine's crates allocates memory, except to make a block, and none
+has an array, except for one byte of a device and for the buffers of devices, which only a caller makes. Constants and
+tests are exempt; a copy of a constant array would count."""
 import glob
 import os
 import re

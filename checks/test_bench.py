@@ -1,5 +1,5 @@
-"""The two processors in C that docs/PERFORMANCE.md compares with: they compile without a warning, and print on each
-small job of bench.py what the program prints, in as many steps and with the same peak."""
+"""The two processors in C that docs/PERFORMANCE.md compares with compile without a warning, and on each small job of
+bench.py they print what the program prints, in the same number of steps and with the same peak."""
 import os
 import platform
 import subprocess

@@ -1,5 +1,5 @@
-"""The engine as C, hosts/c/trac_engine.c: each script does there what it does in the program, at once and in
-pieces, also under sanitizers. What it asks of its surroundings, and how much stack it takes."""
+"""The engine in C, hosts/c/trac_engine.c: each script does there what it does in the program, in one run and in pieces,
+also under sanitizers. Which functions it needs from outside, and how much stack it uses."""
 import os
 import re
 import shutil

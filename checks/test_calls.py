@@ -1,4 +1,5 @@
-"""Sequences of calls of trac.h that a fuzzer thinks of in some seconds, over the engine in C under sanitizers."""
+"""A fuzzer of calls of trac.h, which runs for some seconds over the engine in C under sanitizers, finds nothing,
+and nor do mutated images of forms."""
 import os
 import re
 import subprocess
@@ -6,6 +7,7 @@ import subprocess
 from trac import TOP
 
 SECONDS = 10
+MUTATIONS = int(os.environ.get('MUTATIONS', '5000'))
 
 
 def test_what_a_fuzzer_of_calls_finds():
@@ -13,3 +15,12 @@ def test_what_a_fuzzer_of_calls_finds():
                           text=True, errors='replace', timeout=300, check=False, env={**os.environ, 'SEED': '64'})
     assert done.returncode == 0, done.stderr[-3000:]
     assert int(re.search(r'number_of_executed_units: (\d+)', done.stderr)[1]) > 2000
+
+
+def test_mutated_images():
+    """Beside worked bytes: what is no image is refused and changes nothing, and what is one is given back."""
+    done = subprocess.run([os.path.join(TOP, 'checks', 'fuzz', 'run'), 'images', str(MUTATIONS)], capture_output=True,
+                          text=True, timeout=600, check=False)
+    assert done.returncode == 0, done.stderr[-3000:]
+    taken = re.fullmatch(rf'{MUTATIONS} mutations, (\d+) taken\n', done.stdout)
+    assert MUTATIONS / 50 < int(taken[1]) < MUTATIONS / 2, done.stdout

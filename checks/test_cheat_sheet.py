@@ -1,4 +1,5 @@
-"""The man page of the language, docs/trac.7: one printed page, with the rules and the functions that the manual has."""
+"""The man page of the language, docs/trac.7, fits on one printed page, and has the rules and the functions of the
+manual."""
 import os
 import re
 import subprocess

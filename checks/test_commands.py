@@ -1,5 +1,5 @@
-"""Each command that a document shows runs as it stands there, over a copy of the repository, and ends as the text
-says. A command that can't be run here stands in NOT_RUN with the reason; one that is neither run nor there fails."""
+"""Each command that a document shows runs as shown, in a copy of the repository, and ends as the text says. A command
+that can't be run here is in NOT_RUN with the reason; a command that is neither run nor listed there fails."""
 import glob
 import os
 import re
@@ -13,9 +13,9 @@ from trac import IN_C, TOP, TRACER_IN_C
 
 KIT = 'needs the Rattle kit'
 SESSION = 'a session at a terminal, which the checks of that program have'
-# The programs that are shown and not run here, and why.
+# The programs that are shown but not run here, and why.
 NO_PROGRAMS = {'rt': KIT, 'trac_terminal': SESSION, './trac_terminal': SESSION}
-# The other commands that are shown and not run, and why.
+# The other commands that are shown but not run, and why.
 NOT_RUN = {
     'make install PREFIX=/usr/local': 'writes outside of a temporary folder; test_install.py installs elsewhere',
     'make edits CRATES=trac_core': KIT,
@@ -29,7 +29,7 @@ NOT_RUN = {
         "program.c is the reader's; machines/test_cortex_m.py links such a program",
     'pip install .': 'installs; test_python.py builds the package from a copy',
 }
-# What the reader is told to have: scripts of theirs, and a program that is installed.
+# What the text assumes that the reader has: scripts, and an installed program.
 GIVEN = {'script.trac': "#(ps,hello)'", 'yours.trac': "#(ds,A,(#(ps,(To NAME, and long may they live!\n))))#(ss,A,NAME)"
                                                       "#(cl,A,Ada)#(cl,A,Grace)#(cl,A,the typists)'"}
 FENCE = re.compile(r'^ *```(\S*)\n(.*?)^ *```$', re.MULTILINE | re.DOTALL)
@@ -39,7 +39,7 @@ NAMED = re.compile(r'`([\w./]+\.(?:c|py|mjs))`[^`]*:\n+\Z')
 
 
 class Block:
-    """What a document shows as commands, in order, each with the lines that are printed, if they are shown."""
+    """The commands that a document shows, in order, each with the lines that are printed, if they are shown."""
 
     def __init__(self, text):
         self.commands = []
@@ -51,7 +51,7 @@ class Block:
 
 
 def of_fence(text, fence):
-    """The commands in a fence, or the file of this name that the reader is to write; else None."""
+    """The commands in a fence, or the file with this name that the reader writes; otherwise None."""
     kind, inner = fence.groups()
     named = NAMED.search(text[:fence.start()])
     if kind != 'sh':
@@ -64,7 +64,7 @@ def of_fence(text, fence):
 
 
 def of_indented(indented):
-    """The commands in indented lines, which are a script where they begin with a call."""
+    """The commands in indented lines; None if the lines are a script, which begins with a call."""
     inner = re.sub('^    ', '', indented[1], flags=re.MULTILINE)
     return None if inner.startswith('#(') else Block(inner)
 
@@ -76,7 +76,7 @@ def of_table(table):
 
 
 def of_markdown(text):
-    """The commands of a page, and the files that it has the reader write, in their order."""
+    """The commands of a page, and the files that it tells the reader to write, in order."""
     plain = FENCE.sub(lambda fence: re.sub('[^\n]', '-', fence[0]), text)
     found = [(fence.start(), of_fence(text, fence)) for fence in FENCE.finditer(text)]
     found += [(indented.start(), of_indented(indented)) for indented in INDENTED.finditer(plain)]
@@ -99,7 +99,7 @@ def pages():
 
 
 def copied(to):
-    """A copy of the repository with the programs in C built and current, where a reader begins."""
+    """A copy of the repository with the programs in C built and up to date, as a reader has it."""
     listed = subprocess.run(['git', 'ls-files', '-z'], cwd=TOP, capture_output=True, text=True, check=True).stdout
     for name in filter(None, listed.split('\0')):
         if os.path.lexists(os.path.join(TOP, name)):
@@ -134,7 +134,10 @@ class Commands(unittest.TestCase):
             self.assertEqual(told, shown)
         # The tracer says on standard output how a run ended, and what is suspicious.
         if shown is None or not done.stderr:
-            self.assertIn(done.returncode, (0, 1, 3, 7) if 'trac_trace' in command else (0,), told)
+            if 'trac_trace' in command:
+                self.assertIn(done.returncode, (0, 1, 3, 7), told)
+            else:
+                self.assertEqual(done.returncode, 0, told)
 
     def follow(self, each, place):
         """Does what a page shows: writes a file, or runs commands."""

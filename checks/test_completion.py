@@ -1,4 +1,5 @@
-"""Completion in bash, zsh and fish offers exactly the options that a program's help shows, and none that is given."""
+"""Completion in bash, zsh and fish offers exactly the options that a program's help shows, without those already given.
+"""
 import os
 import pty
 import re

@@ -1,5 +1,5 @@
-"""The cases of conformance/, tried on the built program by the runner that stands beside them; the
-runner on programs that do something else; and the statements that the checker computes."""
+"""The built program meets the cases of conformance/, by the runner in that folder; the runner notices programs that do
+something else; and the statements that the checker computes are those of the cases."""
 import os
 import subprocess
 import sys

@@ -1,5 +1,6 @@
-"""The documents: each link leads to a file and a heading that are there, the words are spelt right, the page of the
-library has each fate, and the index of the checks names each file of checks/ once."""
+"""The documents: each link leads to an existing file and heading, the guides name only existing files of the sources,
+the words are spelt correctly, the page of the library has each fate, and the index of the checks names each file of
+checks/ once."""
 import glob
 import os
 import re
@@ -15,6 +16,9 @@ BLOCK = re.compile(r'^```.*?^```', re.MULTILINE | re.DOTALL)
 LINK = re.compile(r'\]\(([^)#:\s]*)(#[^)]*)?\)')
 LISTED = re.compile(r'^\| `([^`]*)` \| \S', re.MULTILINE)
 HEADING = re.compile(r'^#+ (.*)$', re.MULTILINE)
+# A file of the sources that a document names, if the name has no part in capitals, which stands for others.
+SOURCE = re.compile(r'`((?![^`]*[A-Z]{4})[\w./]+\.(?:rt|antt|py|c|h|mjs|cases))`')
+GUIDES = 'CONTRIBUTING.md', 'docs/ARCHITECTURE.md', 'docs/VERIFICATION.md', 'checks/README.md'
 
 
 def documents():
@@ -26,6 +30,13 @@ def documents():
 def read(path):
     with open(path, encoding='utf-8') as page:
         return page.read()
+
+
+def files_of(folder):
+    """The files of the repository below a folder, new ones too."""
+    found = subprocess.run(['git', 'ls-files', '-z', '--cached', '--others', '--exclude-standard'], text=True,
+                           cwd=folder, capture_output=True, check=True).stdout.split('\0')
+    return [name for name in found if os.path.isfile(os.path.join(folder, name))]
 
 
 def anchors(path):
@@ -47,6 +58,14 @@ class Documents(unittest.TestCase):
                     seen += 1
         self.assertGreater(seen, 150)
 
+    def test_files_that_are_named(self):
+        paths = files_of(TOP)
+        for guide in GUIDES:
+            named = set(SOURCE.findall(BLOCK.sub('', read(os.path.join(TOP, guide)))))
+            self.assertGreater(len(named), 3, guide)
+            missing = {name for name in named if not any(f'/{path}'.endswith(f'/{name}') for path in paths)}
+            self.assertEqual(missing, set(), guide)
+
     def test_spelling(self):
         pages = documents() + glob.glob(os.path.join(TOP, 'docs', '*.[0-9]'))
         code = glob.glob(os.path.join(TOP, 'crates', '*', 'src', '**', '*.rt'), recursive=True)
@@ -62,9 +81,7 @@ class Documents(unittest.TestCase):
         self.assertEqual(set(names) - set(re.findall(r'TRAC_\w+', told)), set())
 
     def test_the_index_of_the_checks(self):
-        found = subprocess.run(['git', 'ls-files', '-z', '--cached', '--others', '--exclude-standard'], text=True,
-                               cwd=CHECKS, capture_output=True, check=True).stdout.split('\0')
-        there = [name for name in found if name != 'README.md' and os.path.isfile(os.path.join(CHECKS, name))]
+        there = [name for name in files_of(CHECKS) if name != 'README.md']
         self.assertGreater(len(there), 80)
         rows = LISTED.findall(read(os.path.join(CHECKS, 'README.md')))
         self.assertEqual(len(rows), len(set(rows)))

@@ -1,5 +1,5 @@
-"""The files for editors: they know exactly the functions of the language, and their patterns find what they are for.
-No editor runs here: the patterns are read as Python's."""
+"""The files for editors know exactly the functions of the language, and their patterns match what they should. No
+editor runs here: the patterns are read as patterns of Python."""
 import os
 import re
 import shutil
@@ -20,7 +20,7 @@ FILES = ['gtksourceview/trac.lang', 'nano/trac.nanorc', 'vim/syntax/trac.vim']
 
 
 def made(place, *words):
-    """Has the names of a tree written anew, by the library of this one."""
+    """Writes the names of a tree again, with the library of this tree."""
     library = os.path.join(TOP, 'build', SHARED)
     return subprocess.run([sys.executable, 'checks/function_names.py', library, *words], cwd=place, capture_output=True,
                           text=True)

@@ -1,7 +1,6 @@
-"""Each edit that the prover must refuse can be made: its lines stand in the file that it names, each
-once, and it changes them. The kit says so only when it tries an edit, which the gate doesn't with
-those of further-edits/.
-"""
+"""Each edit that the prover must refuse applies: its lines occur in the file that it names, each once, and it changes
+them. The kit reports an edit that doesn't apply only when it tries the edit, and the gate doesn't try those of
+further-edits/."""
 import os
 import unittest
 

@@ -1,8 +1,10 @@
-"""The programs in C of the page on embedding, as they stand there: built over the engine in C by two compilers and as
-C++, each prints what is shown behind it. The same header serves Python's ctypes."""
+"""The programs in C of the page on embedding, copied from it: built over the engine in C by two compilers and as C++,
+each prints what is shown after it. The same functions work through Python's ctypes. Three programs of
+examples/embedding_c are also on the page; these and the same three with Lua print what is in the files beside them."""
 import ctypes
 import os
 import re
+import shutil
 import subprocess
 import tempfile
 import unittest
@@ -10,8 +12,10 @@ import unittest
 from trac import TOP, instructions
 
 HEADERS = os.path.join(TOP, 'hosts', 'c')
+EXAMPLES = os.path.join(TOP, 'examples', 'embedding_c')
+LUA = '/usr/include/lua5.4/lua.h'
 ENGINE = os.path.join(HEADERS, 'trac_engine.c')
-PROGRAM = re.compile(r'^```c\n(#include .*?)^```\n(?:\n```sh\n.*?^```\n)?\n```output\n(.*?)^```',
+PROGRAM = re.compile(r'^```c\n((?:#define .*\n)?#include .*?)^```\n(?:\n```sh\n.*?^```\n)?\n```output\n(.*?)^```',
                      re.MULTILINE | re.DOTALL)
 # Defines so many forms, and lists them where a second word stands.
 LISTING = """#include "trac.h"
@@ -65,7 +69,7 @@ class Embedding:
                         file.write(text)
                     subprocess.run([*kind, *STRICT, '-I', HEADERS, '-o', program, source, '-x', 'none', self.library,
                                     f'-Wl,-rpath,{self.room}'], check=True)
-                    done = subprocess.run([program], capture_output=True, text=True, check=True)
+                    done = subprocess.run([program], cwd=self.room, capture_output=True, text=True, check=True)
                     self.assertEqual(done.stdout, wanted)
 
     def test_a_machine_for_a_block_is_refused(self):
@@ -117,6 +121,53 @@ class Embedding:
 
 class EngineInC(Embedding, unittest.TestCase):
     made_of, kind = ['-std=c11', '-O1', '-fPIC', ENGINE], b'generated'
+
+
+def read(name):
+    with open(os.path.join(EXAMPLES, name), encoding='utf-8') as file:
+        return file.read()
+
+
+class Examples(unittest.TestCase):
+    beside_lua = 'sensor', 'template', 'stranger'
+
+    def output(self, *words, **more):
+        done = subprocess.run(words, capture_output=True, text=True, check=False, timeout=300, **more)
+        self.assertEqual((done.returncode, done.stderr), (0, ''), words)
+        return done.stdout
+
+    def build(self, room, *targets):
+        """The folder as it is in a tree, where it finds the engine, and no library that is installed."""
+        place = shutil.copytree(EXAMPLES, os.path.join(room, 'examples', 'embedding_c'))
+        os.symlink(os.path.join(TOP, 'hosts'), os.path.join(room, 'hosts'))
+        self.output('make', '-s', '-C', place, 'PKG_CONFIG_PATH=', *targets)
+        return place
+
+    def test_they_print_what_is_beside_them(self):
+        with tempfile.TemporaryDirectory() as room:
+            place = self.build(room, 'CFLAGS=-std=c11 -O0')
+            for name in ('embedding', *self.beside_lua):
+                self.assertEqual(self.output(os.path.join(place, name)), read(f'{name}.out'), name)
+
+    def test_the_page_has_the_same_programs(self):
+        shown = dict(programs())
+        for name in self.beside_lua:
+            self.assertEqual(shown.get(read(f'{name}.c')), read(f'{name}.out'), name)
+
+    @unittest.skipUnless(os.path.exists(LUA), f'{LUA} is missing: Lua 5.4 is not installed')
+    def test_those_with_lua(self):
+        with tempfile.TemporaryDirectory() as room:
+            place = self.build(room, 'lua')
+            for name in self.beside_lua:
+                own = f'{name}_lua.out'
+                wanted = read(own if os.path.exists(os.path.join(EXAMPLES, own)) else f'{name}.out')
+                self.assertEqual(self.output(os.path.join(place, f'{name}_lua')), wanted, name)
+
+    def test_the_lines_that_the_page_counts(self):
+        told = re.findall(r'^\| `(\w+)`: [^|]* \| (\d+) \| (\d+) \|$', read('README.md'), re.MULTILINE)
+        counted = [(name, *(str(read(f'{name}{kind}.c').count('\n')) for kind in ('', '_lua')))
+                   for name in self.beside_lua]
+        self.assertEqual(told, counted)
 
 
 if __name__ == '__main__':

@@ -1,5 +1,5 @@
-"""Each script of examples/, through the built program: it writes what stands beside it, or what
-docs/EXERCISES.md says of it, and ends well."""
+"""Each script of examples/, run by the built program, prints the contents of the file beside it, or what
+docs/EXERCISES.md shows, and ends without a fault."""
 import glob
 import os
 import re

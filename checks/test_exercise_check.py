@@ -1,4 +1,4 @@
-"""examples/exercises/check: it tells right from wrong, and shows where they part."""
+"""examples/exercises/check accepts correct scripts and refuses wrong ones, and shows where the output differs."""
 import glob
 import os
 import shutil
@@ -12,7 +12,7 @@ FOLDER = os.path.join(TOP, 'examples', 'exercises')
 CHECK = os.path.join(FOLDER, 'check')
 SOLUTIONS = sorted(glob.glob(os.path.join(FOLDER, '*.trac')))
 
-# A number, a script that looks right and isn't, and what is said of it.
+# A number, a script that looks correct and isn't, and the message about it.
 WRONG = [
     (1, "#(ps,Hello, world!)'", 'expected:\nHello, world!\ngot:\nHello\nfirst difference: line 1\n'),
     (2, "#(ps,(f(x), g(y)\n))'", 'expected:\nf(x), g(y)\nh(z)\ngot:\nf(x), g(y)\nfirst difference: line 2\n'),
@@ -27,7 +27,7 @@ WRONG = [
      "got:\n1 first come,\n2 first served\nfirst difference: line 1\n"),
 ]
 
-# Scripts that print what is to be printed, but not in the way that is asked for, and what is then said of them.
+# Scripts that print the right output, but not in the way that the task asks for, and the messages about them.
 NEEDS_PS, NEEDS_CL, CONSTANT = [f'it prints the right text, but {what}\n' for what in (
     'also without its calls of ps', 'also without its calls of cl', 'it holds all of that text')]
 TOASTS = ''.join(f'To {name}, and long may they live!\n' for name in ('Ada', 'Grace', 'the typists'))
@@ -79,7 +79,7 @@ RIGHT = [
 
 
 def check(*words, **more):
-    """What is printed, what is said on standard error, and the status."""
+    """The output, what is printed on standard error, and the status."""
     env = {**os.environ, 'TRAC': PROGRAM, **more.pop('env', {})}
     done = subprocess.run([*more.pop('shell', []), CHECK, *map(str, words)], capture_output=True, text=True, env=env,
                           timeout=60, **more)

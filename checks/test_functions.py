@@ -1,6 +1,6 @@
-"""Each function of the engine's table stands wherever a function must be named by hand: in the manual and its page, in
-the cases of conformance, and among the jobs that grow. No other code of bench/, editors/ and hosts/ quotes more than a
-few of their names, and the grammar of scripts.py has none that is no function's."""
+"""Each function of the engine's table is named wherever a function must be named by hand: in the manual and its page,
+in the cases of conformance, and among the jobs of bench/growing.py. No other code of bench/, editors/ and hosts/ quotes
+more than a few of the names, and the grammar of scripts.py names only functions."""
 import os
 import re
 import sys

@@ -1,5 +1,5 @@
-"""hosts/c/trac_engine.c and hosts/wasm/trac.wasm were made from the sources that stand here, and say so, the one in its
-head, the other in a file beside it; an edit of the sources shows, and so does another module."""
+"""hosts/c/trac_engine.c and hosts/wasm/trac.wasm were generated from the current sources. The one names their checksum
+in its head, the other in a file beside it; an edit of the sources, or another module, is noticed."""
 import os
 import re
 import shutil

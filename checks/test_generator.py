@@ -1,8 +1,8 @@
-"""The translator of the engine, hosts/c/generator: modules that are made up, of the instructions that the engine has,
-do in C what they do in Node's engine; what it doesn't know it refuses.
+"""The generator of the engine in C, hosts/c/generator: random modules, made of the instructions that the engine has, do
+in C what they do in Node's engine; what the generator doesn't know it refuses.
 
-test_generator.py FIRST COUNT tries so many modules from the one with this number on, and prints how often each
-instruction was tried."""
+test_generator.py FIRST COUNT tries COUNT modules, beginning with number FIRST, and prints how often each instruction
+was tried."""
 import contextlib
 import io
 import os
@@ -27,7 +27,7 @@ import wasm_to_c  # noqa: E402
 
 PLACES = (65536, 196608)
 COMPILERS = (['gcc', '-O2'], ['clang', '-O2'], ['tcc'])
-# One that sees what leaves a function's frame.
+# A compiler that detects accesses outside of a function's frame.
 WATCHING = ['gcc', '-O1', '-fsanitize=address']
 BATCH, GATE, LEAST = 20, 300, 100
 ENTRIES = """static const struct entry {{
@@ -39,7 +39,7 @@ CALLED = 'static u64 called_{0}(word place, u32 a, u64 b) {{ return {0}(place, a
 
 
 def occurring():
-    """The instructions of the engine, as its C names them."""
+    """The instructions of the engine, as its C lists them."""
     with open(os.path.join(IN_C, 'trac_engine.c'), encoding='utf-8') as engine:
         listed = re.search(r'/\* Instructions:(.*?)\*/', engine.read(100000), re.DOTALL)[1]
     return sorted(re.findall(r'([a-z][\w.]*) \d+', listed.replace('\n *', '')))
@@ -53,10 +53,10 @@ def tool(*words, **more):
 
 
 class Translation:
-    """A module as the translator gives it: its C, and what its C's program calls."""
+    """A module as the generator translates it: its C, and what the program around its C calls."""
 
     def __init__(self, folder, name, *texts):
-        """`texts` are the module's at the two places."""
+        """`texts` are the module's texts at the two places."""
         self.files = [os.path.join(folder, f'{name}.{place}.wasm') for place in PLACES]
         for file, text in zip(self.files, texts):
             tool('wat2wasm', '--enable-memory64', '--debug-names', '-o', file, '-', input=text)
@@ -99,7 +99,8 @@ def answers_of_node(translations):
 
 
 def batch(first, count, instructions):
-    """Tries modules. Gives how often each instruction stood in one that was run, the answers, and what differs."""
+    """Tries modules. Gives how often each instruction occurred in a module that was run, the answers, and the
+    differences."""
     with tempfile.TemporaryDirectory() as folder:
         translations, counts = [], Counter()
         for number in range(first, first + count):
@@ -114,7 +115,7 @@ def batch(first, count, instructions):
 
 
 def tried(first, count):
-    """Tries so many modules, several batches beside each other."""
+    """Tries a number of modules, several batches in parallel."""
     instructions = occurring()
     starts = range(first, first + count, BATCH)
     with ProcessPoolExecutor(os.cpu_count()) as pool:
@@ -170,8 +171,8 @@ class Crafted(unittest.TestCase):
     """Modules that are written by hand."""
 
     def gives(self, body, *results, more=''):
-        """What the function gives for the first arguments of modules.c, with every compiler and in Node; no frame is
-        left."""
+        """The values that the function gives for the first arguments of modules.c, with every compiler and in Node; no
+        stack frame is left."""
         with tempfile.TemporaryDirectory() as folder:
             made = Translation(folder, 'm', *(placed(crafted(body, more=more), bytes_and_words, at) for at in PLACES))
             file = program_of(folder, [made])
@@ -270,7 +271,7 @@ class Crafted(unittest.TestCase):
                    '74737271706f6e6d')
 
     def test_parts_of_addresses_end_the_program(self):
-        """What the translator can't tell beforehand: a load that would read a part of an address, and a copy of one."""
+        """What the generator can't know beforehand: a load that would read a part of an address, and a copy of one."""
         place, zero = '(i64.and (local.get 2) (i64.const 15))', '(i64.const 0)'
         for body in (f'(i64.load32_u offset={{tables+52}} {place})', f'(i64.load offset={{tables+52}} {place})',
                      f'(memory.copy (local.get 0) (i64.add (i64.const {{tables+48}}) {place}) (i64.const 8)) {zero}'):
@@ -297,7 +298,7 @@ class Crafted(unittest.TestCase):
         with self.assertRaisesRegex(SystemExit, 'by more than addresses'):
             translated(crafted(zero), lambda at: (2 * at).to_bytes(8, 'little'))
 
-    # ---- What isn't known at all
+    # ---- What the generator doesn't know
 
     def test_what_else_is_refused(self):
         zero = '(i64.const 0)'

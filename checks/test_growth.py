@@ -1,5 +1,5 @@
-"""A step is bounded by the block: the scripts that cost the most for their steps, each in a block that
-is full or has one cell left, take as many times the instructions as they are longer."""
+"""The block bounds the cost of a step: for the scripts that cost the most for their steps, each in a block that is full
+or has one cell left, the instructions grow at most in proportion to the length."""
 import unittest
 from concurrent.futures import ThreadPoolExecutor
 

@@ -1,5 +1,5 @@
-"""make install and make uninstall: what is put into a folder works from anywhere, without rt and the repository; no
-foreign file is touched; and what was put there is taken away, and nothing else."""
+"""make install and make uninstall: what is installed in a folder works from anywhere, without rt and the repository; no
+other file is changed; and uninstalling removes what was installed, and nothing else."""
 import glob
 import os
 import re
@@ -28,7 +28,7 @@ target_link_libraries(shared trac::shared)
 """
 # What a shell, sed or pkg-config could take for its own.
 ODD = """a b,c&d"e'f\\g;h"""
-# A compiler that writes a whole file, or where it is told so half of one, and then kills the shell that called it.
+# A compiler that writes a whole file or, if asked, half a file, and then kills the shell that called it.
 COMPILER = """#!/bin/sh
 while [ "$1" != -o ]; do shift; done
 if [ -e '{killed}' ]; then printf ha >"$2" && kill -9 $PPID; else printf half >"$2"; fi
@@ -305,7 +305,7 @@ class Install(unittest.TestCase):
         self.install()
         with open(os.path.join(self.there, DOC, 'INSTALLED'), encoding='utf-8') as listed:
             names = [line.split('\t')[0] for line in listed if '\t' in line]
-        # what an installation that is broken off has put there: its list, and the first files
+        # what an interrupted installation has installed: its list, and the first files
         for name in names[5:]:
             os.remove(os.path.join(self.there, name))
         self.assertEqual(self.uninstall().returncode, 0)
@@ -320,7 +320,7 @@ class Install(unittest.TestCase):
 
 
 class Make(unittest.TestCase):
-    """What make builds, over a copy with a stand-in for the compiler."""
+    """What make builds, in a copy with a stand-in for the compiler."""
 
     def setUp(self):
         self.top = tempfile.mkdtemp()
@@ -352,7 +352,7 @@ class Make(unittest.TestCase):
                     self.assertEqual(file.read(), 'half')
 
     def test_help(self):
-        """It tells what each word needs, and how long that takes."""
+        """The help says what each target needs, and how long it takes."""
         lines = self.make('-s', 'help').stdout.splitlines()
         self.assertGreater(len(lines), 10)
         for line in lines[:-1]:

@@ -1,4 +1,4 @@
-"""Calls of the system that are interrupted, by strace: none of them is a failure."""
+"""Interrupted system calls, made by strace, are no failures."""
 import os
 import re
 import subprocess

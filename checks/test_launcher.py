@@ -1,4 +1,4 @@
-"""The launcher, over a throw-away copy: what it builds and runs, what it says, and that it needs a C compiler alone."""
+"""The launcher, in a temporary copy: what it builds and runs, what it reports, and that it needs only a C compiler."""
 import os
 import pty
 import re
@@ -16,7 +16,7 @@ PROVED = os.path.join('crates', 'trac_cli', 'out', 'trac_cli')
 BUILT = os.path.join('build', 'trac')
 UNITS = 4
 ENGINE = os.path.join('hosts', 'c', 'trac_engine.c')
-# A compiler that notes its words, and writes a program that tells who it is.
+# A compiler that records its arguments, and writes a program that prints its own name.
 COMPILER = """#!/bin/sh
 echo "$0 $*" >>'{calls}'
 while [ "$1" != -o ]; do shift; done
@@ -28,14 +28,14 @@ CHANGED_OF_MAKE = '{}: the sources changed, and this is the engine as it was; ma
 # What a run by a user gets who may write nothing.
 NOBODY = 65534
 AS_NOBODY = {'user': NOBODY, 'group': NOBODY} if os.getuid() == 0 else {}
-# What stands on the path of a machine with a C compiler alone, beside the compiler.
+# The commands on the path of a machine with only a C compiler, besides the compiler.
 PLAIN = ['sh', 'cat', 'cp', 'cut', 'dirname', 'ls', 'mkdir', 'mv', 'printf', 'readlink', 'rm', 'sha256sum', 'sort',
          'touch']
 COMPILERS = (['as', 'ld', 'gcc', 'cc'], ['tcc'])
 
 
 def tracked():
-    """The files of the repository, as they stand."""
+    """The files of the repository, unchanged."""
     done = subprocess.run(['git', 'ls-files', '-z'], cwd=TOP, capture_output=True, text=True, check=True)
     return [name for name in done.stdout.split('\0') if name and os.path.lexists(os.path.join(TOP, name))]
 
@@ -73,7 +73,7 @@ class Launcher(unittest.TestCase):
         os.chmod(path, 0o755)
 
     def put(self, name, text=''):
-        """A program that tells who it is, newer than all sources."""
+        """A program that prints its own name, newer than all sources."""
         path = os.path.join(self.top, name)
         os.makedirs(os.path.dirname(path), exist_ok=True)
         with open(path, 'w', encoding='utf-8') as file:
@@ -91,7 +91,7 @@ class Launcher(unittest.TestCase):
         self.date(name, 5)
 
     def environment(self, path=None, **more):
-        """Where no compiler is named, and the stand-in for one is found first."""
+        """No compiler is named, and the stand-in for one is found first."""
         kept = {name: value for name, value in os.environ.items() if name != 'CC'}
         return {**kept, 'PATH': path or self.tools + ':' + os.environ['PATH'], **more}
 
@@ -265,7 +265,7 @@ class Launcher(unittest.TestCase):
         self.assertEqual(self.compiled(), 0)
 
     def test_what_make_builds(self):
-        """The program is built by make where it is missing, and gets the words."""
+        """make builds the program if it is missing, and the program gets the words."""
         for name in ('trac_terminal', 'trac_trace'):
             program = os.path.join('build', name)
             self.tool('make', '#!/bin/sh\necho "make $*" >&2\nexit 1\n')
@@ -289,7 +289,7 @@ chmod +x '{self.top}/{program}'
             self.date(typing, -5)
 
     def test_without_make(self):
-        """What make builds is not built without it, and that is said."""
+        """Without make the targets of make aren't built, and the launcher says so."""
         path = os.path.join(self.folder, 'without make')
         os.mkdir(path)
         for tool in ('sh', 'mkdir', 'readlink', 'find'):
@@ -298,7 +298,7 @@ chmod +x '{self.top}/{program}'
             '', 'trac_trace: it is not built yet, and make, which builds it, is not here\n', 70))
 
     def test_the_proved_program_that_shows_steps(self):
-        """It is run where it is newer than the sources, and else the one in C."""
+        """The proved program is run if it is newer than the sources, and otherwise the one in C."""
         proved = os.path.join('crates', 'trac_trace', 'out', 'trac_trace')
         for name in ('trac_trace', 'trac_terminal'):
             self.put(os.path.join('build', name), 'echo in C')
@@ -317,8 +317,8 @@ chmod +x '{self.top}/{program}'
 
 class Clone(unittest.TestCase):
     def test_hello_with_a_c_compiler_alone(self):
-        """What a clone says first, with a compiler, the shell and the plainest tools on the path: no kit, no make,
-        no Python."""
+        """The first output of a clone, with only a compiler, the shell and the most basic tools on the path: no kit, no
+        make, no Python."""
         for compilers in COMPILERS:
             with self.subTest(compilers=compilers):
                 self.say_hello(PLAIN + compilers)

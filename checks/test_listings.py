@@ -1,5 +1,5 @@
-"""Old listings: what --convert makes of a script that was written as on a typewriter runs as the script does, and all
-else stays; what --check says of such files; the forms that stand in front by --with."""
+"""Old listings: a script that was written as on a typewriter, converted by --convert, runs as the original script does,
+and everything else in it stays; what --check says about such files; forms that --with defines first."""
 import os
 import re
 import subprocess
@@ -11,7 +11,7 @@ from trac import TOP
 TERMINAL = os.path.join(TOP, 'build', 'trac_terminal')
 PROGRAM = os.path.join(TOP, 'build', 'trac')
 
-# Scripts in the manner of those that were published, and what each prints.
+# Scripts in the style of published ones, and what each prints.
 SCRIPTS = {
     'factorial': ("""#(ds,FACT,(#(eq,X,1,1,(#(ml,X,#(cl,FACT,
 #(su,X,1)))))))#(ss,FACT,X)'
@@ -42,7 +42,7 @@ def by_bare_names(script):
     return script.replace('#(cl,', '#(')
 
 
-# How a listing differs, and what is told of it.
+# How a listing differs, and the message about it.
 MANNERS = {
     'carriage returns': (lambda script: script.replace('\n', '\r\n'), 'line end'),
     'rubouts': (lambda script: script.replace('#(ds,', '#(ds,Q\x7f').replace('ss,', 'st\x08s,'), 'rubout'),

@@ -1,5 +1,5 @@
-"""Each script of the manual, of the idioms, of the lesson and of the page on old listings, through the built program:
-it writes what the page prints after it."""
+"""Each script of the manual, of the idioms, of the lesson and of the page on old listings, run by the built program,
+prints what the page shows after it."""
 import os
 import re
 import subprocess

@@ -1,4 +1,4 @@
-"""The traces, the warnings and the names of rules that the manual shows, through trac_trace."""
+"""trac_trace prints the traces, the warnings and the names of rules that the manual shows."""
 import re
 import unittest
 

@@ -1,5 +1,4 @@
-"""Each request for memory in turn is refused, by a small library before the C library's
-allocator."""
+"""Each request for memory is refused in turn, by a small library that is loaded before the C library's allocator."""
 import os
 import subprocess
 import tempfile
@@ -104,7 +103,7 @@ class Tracer(Refusing):
     PROGRAM = TRACER_IN_C
 
     def test_the_lines_that_are_made_are_written(self):
-        """They are, where there is no memory for more of them."""
+        """They are written if there is no memory for more of them."""
         script = b"#(ds,A,(%s))#(ps,#(cl,A))'" % (b'x' * 3000)
         ample, *_, sizes = self.run_refusing(0, script)
         few, lines, status, _, _ = self.run_refusing(len(sizes), script)

@@ -1,25 +1,42 @@
-"""The module for JavaScript does in Node what the program does: each script in each room and with each allowance, at
-once and by turns, and sessions."""
+"""The module for JavaScript does in Node what the program does: each script in each room and with each allowance, in
+one run and in turns, and sessions. In SpiderMonkey, the engine of Firefox, it does the same, and meets the cases of
+conformance/."""
+import glob
 import json
 import os
+import pathlib
 import subprocess
+import sys
 import unittest
 
 from rows import rows
 from trac import TOP, make
 
+CASES = os.path.join(TOP, 'conformance')
+sys.path.append(CASES)
+from run import cases  # noqa: E402
+
 FATES = {'halted': 0, 'input ended': 0, 'workspace': 1, 'steps': 3}
+PACKAGE = os.path.join(TOP, 'build', 'npm')
+
+
+def lines(scripts):
+    """Scripts with their cells and their steps, as lines of JSON."""
+    return ''.join(json.dumps({'script': list(script), 'cells': cells, 'steps': steps}) + '\n'
+                   for script, cells, steps in scripts).encode()
+
+
+def lines_of_rows():
+    return lines((row.script, row.cells, row.allowed) for row in rows())
 
 
 class Module(unittest.TestCase):
     @classmethod
     def setUpClass(cls):
         make('npm')
-        lines = '\n'.join(json.dumps({'script': list(row.script), 'cells': row.cells,
-                                      'steps': row.allowed}) for row in rows())
         done = subprocess.run(
-            ['node', os.path.join(TOP, 'checks', 'runs.mjs'), os.path.join(TOP, 'build', 'npm', 'trac.mjs')],
-            input=lines.encode(), capture_output=True, timeout=300, check=True)
+            ['node', os.path.join(TOP, 'checks', 'runs.mjs'), os.path.join(PACKAGE, 'trac.mjs')],
+            input=lines_of_rows(), capture_output=True, timeout=300, check=True)
         cls.answers = json.loads(done.stdout)
 
     def test_each_row(self):
@@ -68,6 +85,35 @@ class Module(unittest.TestCase):
     def test_text_and_version(self):
         with open(os.path.join(TOP, 'VERSION'), encoding='utf-8') as file:
             self.assertEqual((self.answers['text'], self.answers['version']), ('été', file.read().strip()))
+
+
+class SecondEngine(unittest.TestCase):
+    def told(self, given):
+        """What scripts come to in SpiderMonkey."""
+        make('npm')
+        done = subprocess.run(['js102', '--module=' + os.path.join(TOP, 'checks', 'spidermonkey.mjs')], input=given,
+                              env={**os.environ, 'NPM': PACKAGE}, capture_output=True, timeout=300, check=True)
+        return [json.loads(line) for line in done.stdout.splitlines()]
+
+    def test_each_row(self):
+        told = self.told(lines_of_rows())
+        self.assertEqual(len(told), len(rows()))
+        for row, one in zip(rows(), told):
+            with self.subTest(row=row):
+                self.assertEqual((bytes(one['output']), one['steps'], one['peak'], FATES[one['fate']]),
+                                 (row.output, row.steps, row.peak, row.status))
+
+    def test_each_case(self):
+        given = [case for name in sorted(glob.glob(os.path.join(CASES, '*.cases')))
+                 for case in cases(pathlib.Path(name)) if 'fails' not in case]
+        self.assertGreater(len(given), 600)
+        told = self.told(lines((case['input'], int(case['cells']), int(case['allowance'])) for case in given))
+        self.assertEqual(len(told), len(given))
+        for case, one in zip(given, told):
+            with self.subTest(case=case['name']):
+                got = {'output': bytes(one['output']), 'status': str(FATES[one['fate']]), 'steps': str(one['steps']),
+                       'peak': str(one['peak'])}
+                self.assertEqual(got, {key: case.get(key, got[key]) for key in got})
 
 
 if __name__ == '__main__':

@@ -1,4 +1,4 @@
-"""The package for npm: what it refuses and how, that nothing is lost, its types, and what it packs."""
+"""The package for npm: what it refuses and how, that nothing is lost, its types, and the files in it."""
 import json
 import os
 import shutil
@@ -33,7 +33,7 @@ class Npm(unittest.TestCase):
             'viewsRange': 'RangeError: width', 'bytes': 'TypeError: bytes', 'input': 'TypeError: input',
             'how': 'TypeError: there is no option end', 'most': 'RangeError: most',
             'from': 'RangeError: from', 'which': 'RangeError: which', 'whichText': 'TypeError: which',
-            'saved': 'TypeError: saved', 'savedPages': 'TypeError: saved'}
+            'snapshot': 'TypeError: snapshot', 'snapshotPages': 'TypeError: snapshot'}
         self.assertEqual(set(self.told['errors']), set(wanted))
         for name, begin in wanted.items():
             self.assertTrue((self.told['errors'][name] or '').startswith(begin),

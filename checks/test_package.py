@@ -1,5 +1,5 @@
-"""The Debian packages: lintian is content with each, its programs run from where it is unpacked, and a program is built
-with the library for development."""
+"""The Debian packages: lintian reports nothing, the programs run where a package is unpacked, and a program can be
+built with the development library."""
 import os
 import pathlib
 import subprocess

@@ -1,5 +1,5 @@
-"""The page in a browser: it runs what `trac` runs, shows the steps, asks for nothing, and can be used by
-keyboard, by screen reader and on a phone."""
+"""The page in a browser: it runs what `trac` runs, shows the steps, makes no request to the network, and can be used by
+keyboard, with a screen reader and on a phone."""
 import glob
 import json
 import os
@@ -14,7 +14,7 @@ from selenium.webdriver.common.keys import Keys
 
 PICTURES = os.path.join(TOP, 'checks', 'pictures')
 
-# The texts of the page that can be seen, with the contrast to what lies behind each.
+# The visible texts of the page, each with its contrast to the background.
 CONTRAST = """
     const parts = (text) => (text.match(/[\\d.]+/g) || []).map(Number);
     const light = ([r, g, b]) => [r, g, b].map((part) => part / 255)
@@ -204,7 +204,7 @@ class Steps(Page):
                          'The innermost open call is performed. Not done: the allowance is used up.')
 
     def body(self):
-        """The kinds and the texts of what the body of the first form is shown by."""
+        """The kinds and the texts of the elements that show the body of the first form."""
         return self.script("return [...document.querySelector('#forms dd').childNodes]"
                            ".map((node) => `${node.className ?? ''}:${node.textContent.trim()}`)")
 
@@ -443,14 +443,14 @@ class Speed(Page):
 
     def quick(self, name, place, limit):
         """Half of the clicks take less, in a round of several: one that other programs leave alone."""
-        medians = []
-        while len(medians) < 8:
+        found = []
+        while len(found) < 8:
             self.go(place)
-            times = self.script(self.CLICKS, name, 100)
-            medians.append(times[50])
-            if medians[-1] < limit:
+            slow = page.slowness()
+            found.append((self.script(self.CLICKS, name, 100)[50], slow))
+            if found[-1][0] < limit * slow:
                 return
-        self.fail(f'{name} at {place}: {min(medians)} ms')
+        self.fail(f'{name} at {place}: {found} ms, and how slow the machine was')
 
     def test_ten_thousand_steps(self):
         self.run_script(LOOP.format(400))

@@ -1,4 +1,4 @@
-"""The code of the page: that its types fit, and what make.py takes into the page from the documents."""
+"""The code of the page passes the type checker, and make.py takes into the page what the documents have."""
 import os
 import subprocess
 import sys

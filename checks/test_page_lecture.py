@@ -1,5 +1,5 @@
-"""The page in a lecture: what is shown belongs to the script, nothing typed is lost, long runs and long
-texts are as quick as short ones, and one can jump, play, link, save and exercise."""
+"""The page in a lecture: what is shown belongs to the script, nothing typed is lost, long runs and long texts are as
+quick as short ones, and a user can jump, play, link, save and do exercises."""
 import base64
 import os
 import re
@@ -114,13 +114,15 @@ class Suspicious(Lecture):
 
     def test_the_scripts_with_mistakes(self):
         folder = os.path.join(TOP, 'examples', 'broken')
-        scripts = sorted(name for name in os.listdir(folder) if name.endswith('.trac'))
-        self.assertGreater(len(scripts), 15)
+        # a box has no carriage returns
+        scripts = sorted(name for name in os.listdir(folder)
+                         if name.endswith('.trac') and b'\r' not in Path(folder, name).read_bytes())
+        self.assertGreater(len(scripts), 30)
         for name in scripts:
             with self.subTest(script=name):
                 told, script = (Path(folder, name[:-4] + end).read_text('utf-8') for end in ('warnings', 'trac'))
                 wanted = re.sub(r'^line (\d+, column \d+):', r'Line \1', told, flags=re.MULTILINE).splitlines()
-                # the line on how the run ended stands above the list
+                # the line on how the run ended is above the list
                 wanted = [line for line in wanted if line.startswith('Line ')]
                 self.assertEqual(self.listed(script), wanted)
 
@@ -239,17 +241,18 @@ TIMES = """
 @pytest.mark.timed
 class Long(Lecture):
     def quick(self, name, most, longest=None, count=9, place=None, rounds=6):
-        """The middle one of some clicks takes less, and the page is never held for long, in a round of several: one
-        that other programs leave alone. Each round begins at a place, where one is given."""
+        """The median of some clicks takes less, and the page is never blocked for long, in one of several rounds: one
+        that other programs don't disturb. If a place is given, each round begins there."""
         found = []
         for _ in range(rounds):
             if place is not None:
                 self.go(place)
+            slow = page.slowness()
             middle, gap = browser.execute_async_script(TIMES, name, count)
-            found.append((middle, gap))
-            if middle < most and (longest is None or gap < longest):
+            found.append((middle, gap, slow))
+            if middle < most * slow and (longest is None or gap < longest * slow):
                 return
-        self.fail(f'{name}: {found} ms')
+        self.fail(f'{name}: {found} ms, and how slow the machine was')
 
     def test_sixty_million_steps(self):
         self.run_script(LOOP.format(3000000), '', 65536, 60000000)
@@ -294,24 +297,24 @@ class Long(Lecture):
     HEAVY = "#(ds,f,({}))#(ds,m,(#(eq,##(cl,f),##(cl,f))#(gr,N,0,(#(cl,m,#(su,N,1))))))#(ss,m,N)#(cl,m,1000)'".format(
         'x' * 200000)
 
-    def gaps_of(self, script):
-        """For how long a run of a script holds the page, in each round up to one that other programs leave alone."""
+    def gap_of(self, script):
+        """For how long a run of a script holds the page, in milliseconds of a machine that isn't slow: the shortest of
+        several rounds, up to one that other programs leave alone."""
         for name, value in (('script', script), ('cells', 1000000), ('steps', 100000000)):
             self.put(name, value)
         gaps = []
         while len(gaps) < 8 and not (gaps and gaps[-1] < 100):
-            gaps.append(browser.execute_async_script(self.GAP))
-        return gaps
+            slow = page.slowness()
+            gaps.append(browser.execute_async_script(self.GAP) / slow)
+        return min(gaps)
 
     def test_steps_that_take_long_behind_quick_ones(self):
-        gaps = self.gaps_of(LOOP.format(50000)[:-1] + self.HEAVY)
-        self.assertLess(min(gaps), 100)
+        self.assertLess(self.gap_of(LOOP.format(50000)[:-1] + self.HEAVY), 100)
         self.wait(self.is_at_rest)
         self.assertEqual(self.steps()[1], 2066483)
 
     def test_steps_that_take_long_from_the_first_on(self):
-        gaps = self.gaps_of(self.HEAVY)
-        self.assertLess(min(gaps), 100)
+        self.assertLess(self.gap_of(self.HEAVY), 100)
         self.wait(self.is_at_rest)
         self.assertEqual(self.steps()[1], 49758)
 
@@ -341,7 +344,8 @@ class Long(Lecture):
                 self.open(PLACE)
                 for name, value in (('script', script), ('cells', cells), ('steps', 10000000)):
                     self.put(name, value)
-                found.append(browser.execute_async_script(self.TASKS))
+                slow = page.slowness()
+                found.append(browser.execute_async_script(self.TASKS) / slow)
             self.assertLess(found[-1], 100, found)
 
     def test_the_same_at_a_step_from_either_side(self):
@@ -657,9 +661,10 @@ class Files(Saving):
                              ("#(ds,loop,(#(ps,##(rc))#(cl,loop)))#(cl,loop)'", 6000000)):
             with self.subTest(script=script):
                 self.run_script(script, 'x' * size, 65536, 20000)
+                slow = page.slowness()
                 start = time.monotonic()
                 self.trace()
-                self.assertLess(time.monotonic() - start, 6)
+                self.assertLess(time.monotonic() - start, 6 * slow)
 
     def test_a_trace_that_finds_no_memory(self):
         self.run_script("#(ps,a)'")
@@ -777,12 +782,12 @@ class Files(Saving):
 
 class Study(Lecture):
     def verdict(self):
-        """What is said of a run, when no more inputs are tried."""
+        """The message about a run, when no more inputs are tried."""
         self.wait(lambda: 'Trying' not in self.text('verdict'))
         return self.text('verdict')
 
     def tried(self, number, script):
-        """What is said of a script for an exercise."""
+        """The message about a script for an exercise."""
         name = self.script("return document.getElementById('exercise').options[arguments[0]].text", number)
         self.choose(name, 'exercise')
         self.put('script', script)

@@ -1,4 +1,4 @@
-"""The lesson from the page: all that belongs to a step is on one screen, and the parts lead from one to the next."""
+"""The lesson in the page: everything that belongs to a step is on one screen, and each part leads to the next."""
 import os
 import sys
 import unittest
@@ -12,7 +12,8 @@ sys.path.insert(0, os.path.join(TOP, 'hosts', 'page'))
 import make  # noqa: E402
 
 DEEP = "#(ds,sum,(#(gr,N,0,(#(ad,N,#(cl,sum,#(su,N,1)))),0)))#(ss,sum,N)#(ps,#(cl,sum,4))'"
-# Goes through the steps of a run; gives what is out of view at each, where anything is.
+# Goes through the steps of a run; for each gives what is out of view, if anything is. In a low frame the end of the
+# neutral string, where the next character goes, must be visible, and the rule may be scrolled.
 UNSEEN = """
     const find = (id) => document.getElementById(id);
     const isInside = (part, box) => {
@@ -33,9 +34,14 @@ UNSEEN = """
         for (const id of ['first', 'call-back', 'back', 'step', 'over', 'call-step', 'last', 'rule-says']) {
             if (!isInside(find(id), find(id))) found.push(id);
         }
-        if (find('rule').scrollHeight > find('rule').clientHeight + 1) found.push('the whole rule');
-        const calls = [...find('neutral').children].slice(-3);
-        if (!calls.every((call) => isInside(call, find('neutral')))) found.push('neutral');
+        const isLow = names.includes('low');
+        if (!isLow && find('rule').scrollHeight > find('rule').clientHeight + 1) found.push('the whole rule');
+        const neutral = find('neutral');
+        const calls = [...neutral.children].slice(-3);
+        const isAtEnd = neutral.scrollHeight - neutral.scrollTop - neutral.clientHeight <= 1;
+        if (!(isLow ? isInside(neutral, neutral) && isAtEnd : calls.every((call) => isInside(call, neutral)))) {
+            found.push('neutral');
+        }
         const next = find('active').querySelector('.scanned') ?? find('active').firstChild;
         if (!isInside(next, find('active'))) found.push('active');
         if (names.includes('forms') && !isLineSeen(find('forms').firstChild, find('forms'))) found.push('forms');
@@ -136,6 +142,21 @@ class OneScreen(Lecture):
                 self.assertLessEqual(*self.script(
                     'const page = document.documentElement; return [page.scrollWidth, page.clientWidth]'))
 
+    def test_frames_of_another_page(self):
+        link = self.link(DEEP)
+        for width, height, panels, names in (
+                (900, 420, 'output', ['forms']), (900, 260, 'output', ['low', 'forms']), (600, 300, 'output', ['low']),
+                (540, 480, 'output', []), (480, 480, 'output', []), (480, 300, 'output', ['low']),
+                (360, 480, 'output', []), (320, 480, 'output', ['low']), (480, 660, 'script,output', ['script'])):
+            with self.subTest(width=width, height=height):
+                self.size(width, height)
+                self.open(link.replace('#', f'?embed={panels}#'))
+                self.wait(lambda: self.is_shown('step') and self.is_at_rest())
+                self.assertEqual(self.script(UNSEEN, names), [])
+                self.assertEqual(self.script('return window.scrollY'), 0)
+                self.assertLessEqual(*self.script(
+                    'const page = document.documentElement; return [page.scrollWidth, page.clientWidth]'))
+
     def test_what_is_suspicious_takes_a_line_on_a_projector(self):
         self.size(1280, 720)
         self.open(PLACE)
@@ -149,6 +170,12 @@ class OneScreen(Lecture):
         self.size(640, 360)
         self.open(PLACE)
         self.assertLessEqual(self.script("return document.querySelector('header').offsetHeight"), 90)
+        for part in range(1, 11):
+            self.open(f'{PLACE}?lesson={part}')
+            self.wait(self.is_at_rest)
+            self.assertLessEqual(self.script("return document.querySelector('header').offsetHeight"), 90)
+            self.assertTrue(all(self.is_shown(name) for name in ('lesson', 'size', 'scheme', 'part-after', 'notes')))
+        self.open(PLACE)
         self.through(DEEP)
         self.script("document.getElementById('forms').scrollIntoView({ block: 'end' })")
         top, bottom = self.script(
@@ -254,6 +281,23 @@ class Parts(Lecture):
             self.assertEqual(browser.current_url, link)
         self.press('lesson')
         self.assertEqual((browser.current_url, self.value('part')[0]), (f'{PLACE}?lesson=1', '1'))
+
+    def test_a_reload_behind_a_link_comes_back_to_the_lesson(self):
+        self.open(f'{PLACE}?lesson=4')
+        self.wait(self.is_at_rest)
+        self.type('#(ps,mine)')
+        text = self.value('script')
+        self.press('link')
+        self.wait(lambda: '#' in browser.current_url)
+        browser.refresh()
+        self.assertEqual((self.value('script'), self.is_shown('guide'), self.value('part')[0]), (text, True, '4'))
+        browser.refresh()
+        self.assertEqual((self.value('script'), self.is_shown('guide')), (text, True))
+        self.press('lesson')
+        self.press('link')
+        self.wait(lambda: '#' in browser.current_url)
+        browser.refresh()
+        self.assertEqual((self.value('script'), self.is_shown('guide')), (text, False))
 
     def test_a_part_is_not_called_suspicious(self):
         self.choose('2. A comma parts, parentheses protect')

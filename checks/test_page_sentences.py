@@ -1,5 +1,5 @@
-"""What the page says of a call is what the call does, as the strings, the forms and the output show it: in the lesson,
-in the examples, and in scripts that are made up. What is shown belongs to the run that is shown."""
+"""What the page says about a call is what the call does, as the strings, the forms and the output show it: in the
+lesson, in the examples, and in random scripts. What is shown belongs to the run that is shown."""
 import glob
 import os
 import re
@@ -20,13 +20,13 @@ ARITHMETIC = {'ad': lambda a, b: a + b, 'su': lambda a, b: a - b, 'ml': lambda a
 GREATEST = 2 ** 127 - 1
 OF_FORMS = {'ss', 'pf', 'cl', 'cs', 'cc', 'cn', 'in', 'cr'}
 NAMES = set('rs rc cm ps hl ds ss dd da ln pf cl cs cc cn in cr eq gr ad su ml dv bu bi bc bs br'.split())
-# Where the default value of a function stands that takes it where a pointer has to stay.
+# The place of the default value of each function that gives it when its pointer has to stay.
 DEFAULTS = {'cs': 2, 'cc': 2, 'cn': 3, 'in': 3}
 CHANGES = re.compile(r'It defines (?!.*, as it was\.)|It removes |becomes gap|goes to the start|It sets the pointer'
                      r'|It takes (?!no )|A gap stands at')
 
-# Runs a script, and goes from call to call. For each: the sentence, and in front of the step and behind it the
-# arguments, the forms, what landed, and how much is printed. Null stands for what is cut because it is long.
+# Runs a script, and goes from call to call. For each call it gives the sentence, and, before and after the step, the
+# arguments, the forms, the delivered value, and how much is printed. Null replaces what is cut because it is long.
 WALK = """
     const [script, input, most, done] = arguments;
     const find = (id) => document.getElementById(id);
@@ -87,12 +87,12 @@ def setUpModule():
 
 
 def text_of(codes):
-    """Codes as bytes, or None where they are cut."""
+    """Codes as bytes, or None if they are cut."""
     return None if None in codes else bytes(codes)
 
 
 def forms_of(look):
-    """The forms by their names: of each its items and its pointer, or None where it is cut."""
+    """The forms by their names: for each its items and its pointer, or None if it is cut."""
     found = {}
     for name, body in zip(look['names'], look['bodies']):
         cut = None in body
@@ -106,7 +106,7 @@ def number(text):
 
 
 class Call:
-    """A call that was performed, by what was to be seen before and behind its step."""
+    """A call that was performed, and what was visible before and after its step."""
 
     def __init__(self, before, after):
         self.says, self.is_over = before['says'], after['over']
@@ -133,7 +133,7 @@ class Call:
         return self.forms.get(self.argument(1))
 
     def took_default(self):
-        """Whether the value is the default one; None where the functions of pointers leave that open."""
+        """Whether the value is the default one; None if a function that moves a pointer leaves that open."""
         if self.name in ARITHMETIC:
             one, other = number(self.argument(1)), number(self.argument(2))
             if max(abs(one), abs(other)) > GREATEST or (self.name == 'dv' and not other):

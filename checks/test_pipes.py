@@ -1,5 +1,5 @@
-"""The program as a stream: it answers at once, ends when it is to, keeps nothing back, and makes no more calls
-of the system than it has to."""
+"""The program in a pipe: it answers at once, ends when it should, holds no output back, and makes no more system calls
+than necessary."""
 import os
 import pty
 import re
@@ -12,7 +12,7 @@ import unittest
 
 from trac import PROGRAM
 
-# Bytes of memory in which the program is to run whatever it prints.
+# The bytes of memory that must suffice for the program, whatever it prints.
 FEW = 64 * 1024 * 1024
 
 
@@ -66,7 +66,7 @@ class Streams(unittest.TestCase):
             for text in (b'one', b'two', b'three'):
                 session.say(b'#(ps,' + text + b")'")
                 self.assertEqual(session.hear(), text)
-            # a terminal that hangs up is an input that ends, or that fails where it is being read then
+            # a terminal that hangs up is an input that ends, or that fails if it is being read at that time
             self.assertIn(session.end(), (0, 4) if at_terminal else (0,))
 
     def test_a_string_that_comes_in_pieces(self):

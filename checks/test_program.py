@@ -1,4 +1,4 @@
-"""The program end to end: texts, statuses, devices that fail, and memory that is refused."""
+"""The program end to end: texts, statuses, failing devices, and refused memory."""
 import os
 import resource
 import signal
@@ -59,15 +59,14 @@ REFUSED = ['--cells 0', '--cells 16777217', '--cells x',
 
 
 def into_full(program, *words, script=b''):
-    """What a program says on standard error, and its status, where the device that it writes to is
-    full."""
+    """What a program prints on standard error, and its status, if the device that it writes to is full."""
     with open('/dev/full', 'wb') as full:
         done = subprocess.run([program, *words], input=script, stdout=full, stderr=subprocess.PIPE)
     return done.stderr, done.returncode
 
 
 def into_closed_pipe(program, *words, script=b''):
-    """The same, where nobody reads the pipe that it writes to."""
+    """The same, if nobody reads the pipe that it writes to."""
     reading, writing = os.pipe()
     os.close(reading)
     done = subprocess.run([program, *words], input=script, stdout=writing, stderr=subprocess.PIPE)
@@ -76,7 +75,7 @@ def into_closed_pipe(program, *words, script=b''):
 
 
 def into_nothing(program, *words, script=b''):
-    """The same, where standard output is closed."""
+    """The same, if standard output is closed."""
     done = subprocess.run(['sh', '-c', '"$@" >&-', 'sh', program, *words],
                           input=script, stderr=subprocess.PIPE)
     return done.stderr, done.returncode

@@ -1,5 +1,5 @@
-"""python -m trac_t64: cases of conformance/ and the rows of the program, places in files, devices that fail, and a
-session at a terminal."""
+"""python -m trac_t64: the cases of conformance/ and the program's worked scripts, places in files, failing devices, and
+a session at a terminal."""
 import glob
 import os
 import pty
@@ -64,12 +64,12 @@ def forked(trac_t64):
 
 
 def heed_interrupts():
-    """Has a program heed ^C, which what runs in the background may ignore."""
+    """Makes a program react to ^C, which programs in the background may ignore."""
     signal.signal(signal.SIGINT, signal.SIG_DFL)
 
 
 def hung_up(data):
-    """A terminal that hangs up behind these bytes."""
+    """A terminal that hangs up after these bytes."""
     import tty
     ours, theirs = os.openpty()
     tty.setraw(theirs)
@@ -126,7 +126,7 @@ def test_a_check(command, written):
                   ['headed', 'endless'], ['headed', '--cells', '10']):
         done = subprocess.run([terminal, '--check', *words], capture_output=True, check=False)
         output, lines, status = command('--check', *words)
-        # The terminal also says where a file looks like an old listing.
+        # The terminal also says if a file looks like an old listing.
         told = b''.join(line for line in done.stdout.splitlines(True) if b': it looks like an old listing' not in line)
         assert (output, status) == (told, done.returncode), words
         assert lines.replace('trac_t64', 'trac_terminal') == done.stderr.decode(), words
@@ -192,7 +192,7 @@ def test_places(command, written):
         ('begun', ['--steps', '99'], '3:26: allowance of 99 steps used up', 3),
     ]
     for name, words, line, status in rows:
-        # what stands behind the first fault isn't run
+        # what comes after the first fault isn't run
         output, lines, got = command(name, 'after', *words)
         assert (lines, got) == (f'{name}:{line}\n', status) and b'b' not in output
     assert command('-e', 'a\nb' + LOOP, '--steps', '99')[1:] == ('-e:2:27: allowance of 99 steps used up\n', 3)
@@ -338,7 +338,7 @@ class Terminal:
         os.write(self.device, text)
 
     def interrupt(self):
-        """Types ^C; once more where it came just before the program waited for a line, which then goes on waiting."""
+        """Types ^C; once more if it came just before the program waited for a line and the program still waits."""
         self.type(b'\x03')
         self.until(b'interrupted\r\n> ', b'\x03')
 

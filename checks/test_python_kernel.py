@@ -1,4 +1,5 @@
-"""The kernel for Jupyter, asked by Jupyter's own client, and the lesson, a notebook that it runs from start to end."""
+"""The kernel for Jupyter, used through Jupyter's own client, and the lesson, a notebook that it runs from start to end.
+"""
 import json
 import os
 import subprocess
@@ -75,7 +76,7 @@ def test_cells_of_a_session(kernel):
 
 def test_what_a_script_reads(kernel):
     assert run(kernel, "#(ps,[##(rs)][##(rs)])'one'", answers=['t,w', "o'"]) == ([('stream', '[one][t,w\no]')], 'ok')
-    # where nobody can be asked, the input ends
+    # if nobody can be asked, the input ends
     assert run(kernel, "#(ps,[##(rs)])'") == ([], 'ok')
 
 
@@ -120,6 +121,80 @@ def test_what_is_suspicious(kernel):
     assert run(kernel, "#(ps,#(cl,A))'") == ([('stream', 'kept')], 'ok')
 
 
+TEMPERATURE = """%function temperature
+places = {b'indoors': '21', b'outdoors': b'4'}
+
+return places.get(arguments[0])"""
+WEATHER = "#(ps,In: #(temperature,indoors); out: #(temperature,outdoors); [#(temperature,\u00e9)].)'"
+
+
+def function_fault(kernel, code):
+    """The line that a cell shows of a fault, which ends it, and what it showed before."""
+    seen, status = run(kernel, code)
+    assert status == 'error' and seen[-1][0] == 'error'
+    return seen[-1][1][0][5:-4], seen[:-1]
+
+
+def test_functions_that_a_cell_makes(kernel):
+    assert run(kernel, '%reset\n' + TEMPERATURE) == ([], 'ok')
+    assert run(kernel, WEATHER) == ([('stream', 'In: 21; out: 4; [].')], 'ok')
+    assert run(kernel, "%function pair\nreturn '#(ad,' + ','.join(map(bytes.decode, arguments)) + ')'") == ([], 'ok')
+    assert run(kernel, "#(ps,#(pair,1,2)##(pair,1,2))'") == ([('stream', '3#(ad,1,2)')], 'ok')
+    assert run(kernel, '%function') == ([('table', TEMPERATURE + '\n%function pair\n'
+                                          "return '#(ad,' + ','.join(map(bytes.decode, arguments)) + ')'")], 'ok')
+    # a later one takes the place of an earlier one, and they share their global names
+    assert run(kernel, "%function pair\nglobal count\ncount = 5\nreturn '%d' % count") == ([], 'ok')
+    assert run(kernel, "%function more\nglobal count\ncount += 1\nreturn str(count)") == ([], 'ok')
+    assert run(kernel, "#(ps,#(pair)#(more)#(more))'") == ([('stream', '567')], 'ok')
+    seen, _ = run(kernel, "%trace calls\n#(ps,#(more))'")
+    assert seen[0] == ('stream', '8') and '#(ps<,>8) prints 8' in seen[1][1]
+    assert run(kernel, '%function pair\n\n') == ([], 'ok')
+    assert run(kernel, "#(ps,[#(pair)#(more)])'") == ([('stream', '[9]')], 'ok')
+    assert run(kernel, "%reset\n#(ps,[#(more)])'") == ([('stream', '[]')], 'ok')
+    assert run(kernel, '%function') == ([('table', '')], 'ok')
+
+
+def test_errors_in_a_function_lose_nothing(kernel):
+    assert run(kernel, '%reset\n' + TEMPERATURE) == ([], 'ok')
+    for body, line, reason in (
+            ('return 1 +', 3, 'invalid syntax'), ('x = 1\nreturn (x', 4, "'(' was never closed"),
+            ('x = 1\nbreak', 4, "'break' outside loop"), ('\0', 3, 'source code string cannot contain null bytes')):
+        told, _ = function_fault(kernel, f'%steps 1000000\n%function temperature\n{body}')
+        assert told == f'line {line}: function temperature: {reason}'
+    assert run(kernel, WEATHER) == ([('stream', 'In: 21; out: 4; [].')], 'ok')
+    assert run(kernel, "#(ds,A,kept)'") == ([], 'ok')
+    for body, line, reason in (
+            ('x = 1\nreturn 1 / 0', 3, 'ZeroDivisionError: division by zero'),
+            ('raise SystemExit', 2, 'SystemExit'), ('raise GeneratorExit', 2, 'GeneratorExit'),
+            ('def inner():\n    return lost\nreturn inner()', 3, "NameError: name 'lost' is not defined"),
+            ('return 7', 2, 'the value must be str, bytes or None, not int'),
+            ("class Own(Exception):\n  def __str__(self): return 1 / 0\nraise Own", 4,
+             "__main__.Own: <exception str() failed>")):
+        assert run(kernel, f'%function wrong\n{body}') == ([], 'ok')
+        told, before = function_fault(kernel, "#(ds,B,new)'#(ps,before)\n#(ps,#(wrong))'#(ps,never)'")
+        assert told.split(': ', 2)[1] == f'function wrong, line {line} of its cell', body
+        assert told.startswith('line 2, column 16: ') and told.split(': ', 2)[2].endswith(reason.split('.')[-1]), told
+        assert before == [('stream', 'before')]
+    assert run(kernel, "#(ps,#(cl,A)#(cl,B)#(temperature,indoors))'") == ([('stream', 'keptnew21')], 'ok')
+    for code in ('%function ps\nreturn 1', '%function CL\nreturn 1', '%function a b\nreturn 1', '%function nobody',
+                 '%functions'):
+        assert len(run(kernel, code)[0]) == 1 and run(kernel, code)[1] == 'error', code
+
+
+def test_an_interrupt_in_a_function(kernel):
+    manager, client = kernel
+    run(kernel, "%reset\n#(ds,A,kept)'")
+    run(kernel, '%function forever\nimport time\nwhile True: time.sleep(.01)')
+    asked = client.execute("#(ps,begun)#(forever)'", stop_on_error=False)
+    while client.get_iopub_msg(timeout=20)['msg_type'] != 'stream':
+        pass
+    manager.interrupt_kernel()
+    while (reply := client.get_shell_msg(timeout=20))['parent_header']['msg_id'] != asked:
+        pass
+    assert (reply['content']['status'], reply['content']['ename']) == ('error', 'interrupted')
+    assert run(kernel, "#(cl,A)'") == ([('stream', 'kept')], 'ok')
+
+
 def test_an_interrupt(kernel):
     manager, client = kernel
     run(kernel, "%reset\n%steps 1000000000000\n#(ds,A,kept)'")
@@ -147,11 +222,15 @@ def test_what_can_stand_at_the_cursor(kernel, trac_t64):
     assert matches('#(cl,n') == (['nine', 'north'], 5) and matches('#(DD,s') == (['south'], 5)
     assert matches('#(ps,n') == ([], 6) and matches('#(cl,north,n') == ([], 12) and matches('n') == ([], 1)
     assert matches('%t') == (['%trace'], 0) and matches('%c') == (['%cells', '%check'], 0)
+    run(kernel, "%function celsius\nreturn '21'")
+    assert matches('#(c') == (['cc', 'celsius', 'cl', 'cm', 'cn', 'cr', 'cs'], 2)
+    assert matches('%fu') == (['%function'], 0)
     told = client.inspect('#(ps,#(cl,north))', 9, reply=True, timeout=10)['content']
     sentence = 'The value is form N from its pointer on, with X1, X2, .. in its gaps.'
     assert told['data'] == {'text/plain': f'#(cl,N,X1,X2,..): call. {sentence}'}
     for code, status in (("#(ps,a)'", 'complete'), ("#(ps,a)'\n", 'complete'), ('#(ps,a)', 'incomplete'),
-                         ('%forms', 'complete')):
+                         ('%forms', 'complete'), ('%function', 'complete'), ('%function f', 'incomplete'),
+                         ("%function f\nreturn '1'", 'incomplete'), ("%function f\nreturn '1'\n", 'complete')):
         assert client.is_complete(code) and client.get_shell_msg(timeout=10)['content']['status'] == status
 
 

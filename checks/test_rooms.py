@@ -1,4 +1,4 @@
-"""Every room and every allowance, for scripts through the built program."""
+"""Scripts in every room and with every allowance, run by the built program."""
 import unittest
 
 from trac import report

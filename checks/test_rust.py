@@ -1,4 +1,4 @@
-"""The crate for Rust, hosts/rust: it is what the sources give, line by line; cargo builds and tests it offline and
+"""The crate for Rust, hosts/rust: it is generated from the sources, line by line; cargo builds and tests it offline and
 without a warning; its program does what `trac` does."""
 import os
 import re
@@ -17,11 +17,11 @@ from erase import Unknown, erase  # after rust_library, which says where it is
 
 SOURCES = os.path.join(TOP, 'crates')
 MADE = re.compile(r'// Generated from crates/(\w+)/src/(\S+) by hosts/rust/generate, and never edited\.\n')
-# Lines of the Rust that the source hasn't: what needs std, and for tests how a block is made.
+# Lines of the Rust that aren't in the source: for what needs std, and, in tests, for making a block.
 ADDED = {'#[cfg(feature = "std")]', '#[cfg(test)]', 'pub use crate::stand_in::make_block;'}
-# Names that the crate has beside those of `trac_core`: a field's type, and what tests a block's length.
+# Names of the crate that aren't names of `trac_core`: a field's type, and the test of a block's length.
 TABLE = {'Concerned', 'Facts', 'Given', 'Group', 'Traits', 'facts_of', 'function_at', 'function_count'}
-MORE = {'Mode', 'BlockTooLong', 'MOST_CELLS', *TABLE}
+MORE = {'Mode', 'BlockTooLong', 'MOST_CELLS', 'load', 'save', *TABLE}
 
 
 def read(*path):
@@ -35,7 +35,7 @@ def generate(top, *words):
 
 
 def generated():
-    """The crate and the path of each source in the engine, with its Rust behind the first line."""
+    """The crate and the path of each source in the engine, with its Rust after the first line."""
     engine = crates_of('trac_core')
     for folder, _, files in os.walk(os.path.join(CRATE, 'src')):
         for file in files:
@@ -46,7 +46,7 @@ def generated():
 
 
 def as_in_source(line, crate):
-    """A line of the Rust with the paths of its crate in the source, and any line without what a derive says."""
+    """A line of the Rust with the paths of its crate in the source; any line without the content of a derive."""
     line = line.replace(f'crate::{crate}::', 'crate::').replace(' core::', ' std::')
     return re.sub(r'#\[derive\(.*\)\]', '#[derive()]', re.sub(r'\bcrate::(trac_\w+)', r'\1', line))
 
@@ -71,7 +71,7 @@ class Source(unittest.TestCase):
             for line in text.splitlines():
                 wanted = as_in_source(line, crate)
                 # A head without a contract has its semicolon at its own end.
-                head = wanted[:-1] if re.match(r' +fn .*;$', wanted) else wanted
+                head = wanted[:-1] if re.match(r' +(fn |\) -> ).*;$', wanted) else wanted
                 with self.subTest(crate=crate, name=name, line=line):
                     self.assertTrue(line in ADDED or any(wanted == found or head == found for found in source))
                 lines += 1
@@ -184,7 +184,7 @@ class Crate(unittest.TestCase):
         make('build/trac')
         cls.folder = tempfile.mkdtemp()
         cls.addClassCleanup(shutil.rmtree, cls.folder)
-        # What a clone has, without what was built in it.
+        # The files of a clone, without built files.
         cls.crate = os.path.join(cls.folder, 'rust')
         shutil.copytree(CRATE, cls.crate, ignore=shutil.ignore_patterns('target', 'Cargo.lock', '__pycache__'))
 

@@ -1,5 +1,5 @@
-"""The crate for Rust behind trac.h: each script does there what it does in the program, at once and in pieces, and
-what it does in the engine in C. A sum that is too great or a panic would end the program."""
+"""The crate for Rust behind trac.h: each script does there what it does in the program, in one run and in pieces, and
+what it does in the engine in C. An overflow or a panic would end the program."""
 import os
 import shutil
 import subprocess

@@ -1,6 +1,6 @@
-"""Sessions that `trac_terminal` saves: what a save puts in a file's place, what it leaves alone, and what is loaded.
+"""Sessions that `trac_terminal` saves: how a save replaces a file, which files it doesn't change, and what is loaded.
 
-MUTATIONS and KILLS in the environment say how many damaged files are loaded, and how many saves are killed."""
+MUTATIONS and KILLS in the environment set how many damaged files are loaded, and how many saves are killed."""
 import contextlib
 import os
 import random
@@ -11,17 +11,18 @@ import tempfile
 import time
 import unittest
 
-from kept_forms import kept_by, library, script_of, sum_of
+from kept_forms import image_of, kept_by, library, script_of, sum_of
 from test_terminal import CHECKING, EDITING, FOREVER, Room, Typist, built, piped
 from trac import TERMINAL, run
 
 MUTATIONS = int(os.environ.get('MUTATIONS', '3000'))
 KILLS = int(os.environ.get('KILLS', '20'))
 BATCH = 500
+STORES = 60
 IS_ROOT = os.geteuid() == 0
 # Root may write anywhere.
 NOBODY = ['setpriv', '--reuid=65534', '--regid=65534', '--clear-groups'] if IS_ROOT else []
-# The meta character of the session, gaps, pointers, and what can't stand in parentheses.
+# The meta character of the session, gaps, pointers, and characters that can't be in parentheses.
 SCRIPTS = [b"'", b"#(ds,A,b)'", b"#(cm,;)'", b"#(ds,,b)'#(,##(cn,,1))'", b"#(ds,A,b)#(cm,;)'",
            b"#(ds,A,bc)'#(ss,A,c)'#(,##(cc,A))'", b"#(ds,A,##(rs))'('#(ds,B,c)'",
            b"#(ds,A,(';!|`@&$%?:))#(ds,B,##(rc))'\n#(cm,##(cl,B))'"]
@@ -37,7 +38,7 @@ def first_and_last(saved):
 def small_disk(case, *options):
     """A folder on a file system of some pages; skips the test where none can be mounted."""
     with tempfile.TemporaryDirectory() as folder:
-        # by a shell, which tells where there is no such program
+        # by a shell, which reports a missing program
         done = subprocess.run(['sh', '-c', 'mount -t tmpfs -o "$0" tmpfs "$1"', ','.join(options), folder],
                               capture_output=True, text=True, check=False)
         if done.returncode:
@@ -49,20 +50,20 @@ def small_disk(case, *options):
 
 
 class Replaced(Room):
-    """What a save does to the file: all of the new one takes its place, or it stays as it was."""
+    """What a save does to the file: the whole new content replaces the old one, or the file stays as it was."""
 
     def save(self, name, *before, script=b"#(ds,A,b)'", program=TERMINAL):
-        """What is said of a save, and the status."""
+        """The messages of a save, and the status."""
         done = subprocess.run([*before, program, '--save', name], input=script, capture_output=True, timeout=60)
         self.assertEqual(done.stdout, b'')
         return done.stderr.decode(), done.returncode
 
     def limited(self, name, first=':'):
-        """The same where no file can grow; `first` is done by the process that becomes the program."""
+        """The same when no file can grow; the process that becomes the program first does `first`."""
         return self.save(name, 'sh', '-c', f'trap "" XFSZ; {first}; ulimit -f 0; exec "$@"', 'sh')
 
     def save_as_nobody(self, name, folder_mode):
-        """The same by a user who may do no more than the permissions say."""
+        """The same as a user who has only the rights that the permissions give."""
         program = shutil.copy(TERMINAL, self.path('program'))
         self.addCleanup(os.chmod, self.folder, 0o700)
         os.chmod(self.folder, folder_mode)
@@ -166,7 +167,7 @@ class Replaced(Room):
 
 
 class Killed(Room):
-    """A save that is killed leaves the old file or the new one, through links too."""
+    """A save that is killed leaves the old file or the new one, even through links."""
 
     def setUp(self):
         super().setUp()
@@ -193,7 +194,7 @@ class Killed(Room):
         subprocess.run(self.words(0), check=True, timeout=60)
         took = time.monotonic() - start
         killed = turn = 0
-        # what has ended before it is killed doesn't count
+        # a save that has ended before it is killed doesn't count
         while killed < KILLS and turn < 50 * KILLS:
             session = subprocess.Popen(self.words(turn))
             time.sleep(chance.uniform(0, took))
@@ -205,10 +206,11 @@ class Killed(Room):
 
 
 class InAsManyCells(Room):
-    """What a save accepts is loaded in as many cells, and with as many steps."""
+    """What a save accepts can be loaded with as many cells and steps."""
 
     def is_told(self, script, *words):
-        """Whether a save says that something doesn't fit. What fits is loaded as it was, and the rest isn't loaded."""
+        """Whether a save reports that something doesn't fit. What fits is loaded as it was, and the rest isn't
+        loaded."""
         self.put('again', b"#(ds,never,saved)'")
         said = piped('', '--batch', '--quiet', *words, '--save', self.path('saved'), self.put('script', script))[1]
         is_told = 'trac_terminal: ' in said
@@ -259,7 +261,7 @@ class Loaded(Room):
         return self.got('saved')
 
     def is_refused(self, files, why, status, *words):
-        """Nothing of the files is defined, and each of them is named."""
+        """Nothing of the files is defined, and each file is named."""
         ended = piped('', '--batch', *words, self.before, *files, self.probe, program=self.checked)
         lines = ''.join(f'trac_terminal: {file}: {why}; nothing of it is defined\n' for file in files)
         self.assertEqual(ended, (self.SHOWN, lines, status))
@@ -372,7 +374,7 @@ class Loaded(Room):
                                                "trac_terminal: the forms aren't saved, since a file wasn't read\n", 5))
 
     def test_what_has_marks_and_no_lines(self):
-        """A checksum that fits doesn't make a saved session of what has no such lines."""
+        """Text without the two lines isn't a saved session, even with a checksum that fits."""
         first, last = first_and_last(self.saved(b"#(ds,A,b)'"))
         for text in (first + last, first.rstrip(b'\n') + last, first * 3 + last, first + b'\n\n' + last):
             text = text[:-20] + sum_of(text).encode() + text[-4:]
@@ -380,8 +382,132 @@ class Loaded(Room):
             self.assertEqual(ended[0], self.SHOWN)
 
 
+class Images(Room):
+    """`FILE.image` holds the image of the session, which takes the place of all forms and the meta character."""
+
+    # what stood there, and the meta character, are seen by this
+    BEFORE, SHOWN = b"#(ds,own,text)'#(cm,!)'", '/own\n'
+    CUT = 'the image is cut or damaged'
+
+    @classmethod
+    def setUpClass(cls):
+        made = tempfile.TemporaryDirectory()
+        cls.addClassCleanup(made.cleanup)
+        cls.checked = built(made.name, 'gcc', *CHECKING, *EDITING)
+
+    def saved(self, script, name='saved.image', *words):
+        """The image of what a script leaves."""
+        self.assertEqual(piped(script, '--quiet', '--save', self.path(name), *words, program=self.checked)[1:],
+                         ('', 0))
+        return self.got(name)
+
+    def is_refused(self, names, why, status, *words):
+        """Nothing of these files is taken, and each of them is named."""
+        before, probe = self.put('before', self.BEFORE), self.put('probe', '#(ps,##(ln,/))!')
+        ended = piped('', '--batch', *words, before, *names, probe, program=self.checked)
+        lines = ''.join(f'trac_terminal: {name}: {why}; nothing of it is defined\n' for name in names)
+        self.assertEqual(ended, (self.SHOWN, lines, status))
+
+    def test_any_forms_come_back(self):
+        for script in (b'', *SCRIPTS[:-1], *map(script_of, range(STORES))):
+            with self.subTest(script=script):
+                kept = kept_by(library(), script)
+                piped('', '--batch', '--quiet', '--save', self.path('saved.image'), self.put('script', script),
+                      program=self.checked)
+                self.assertEqual(self.got('saved.image'), image_of(*kept))
+                again = piped('', '--batch', '--save', self.path('again.image'), self.path('saved.image'),
+                              program=self.checked)
+                self.assertEqual((again, self.got('again.image')), (('', '', 0), image_of(*kept)))
+
+    def test_all_forms_give_way(self):
+        image, before = self.path('saved.image'), self.put('before', self.BEFORE)
+        self.saved(b"#(ds,A,a-b)#(ds,B,)#(ss,A,-)#(cm,;)'")
+        said = f'trac_terminal: {image}: the image took the place of 1 form\n'
+        self.assertEqual(piped('#(ps,##(ln,/))#(pf,A);', before, image), ('/A/B<^>a<1>b\n', said, 0))
+        self.assertEqual(piped('#(ln,/);', '--quiet', before, image), ('/A/B\n', '', 0))
+        self.assertEqual(piped('', '--batch', image, image)[1], said.replace('1 form', '2 forms'))
+
+    def test_between_strings(self):
+        image = self.path('saved.image')
+        typist = Typist('--quiet')
+        typist.wait('> ')
+        for line, shown in (("#(ds,A,b)#(cm,;)'", ''), (f':save {image}', ''), ('#(ds,C,c)#(cm,!);', ''),
+                            (f':load {image}', ''), ('#(ps,##(cl,A)##(ln,/));', 'b/A\n'),
+                            (f':check {image}', '')):
+            typist.type(line + '\n')
+            self.assertEqual(typist.wait('\n> '), f'{line}\n{shown}> ')
+        typist.type('\x04')
+        self.assertEqual(os.waitstatus_to_exitcode(typist.status()), 0)
+
+    def test_damaged_ones(self):
+        image = self.saved(b"#(ds,A,a-b)#(ds,B,)#(ss,A,-)'")
+        names = [self.put(f'cut{length}.image', image[:length]) for length in range(len(image))]
+        names += [self.put(f'flipped{bit}.image', image[:bit // 8] + bytes([image[bit // 8] ^ 1 << bit % 8]) +
+                           image[bit // 8 + 1:]) for bit in range(8 * len(image)) if bit // 8 != 4]
+        names += [self.put('more.image', image + b'\0'), self.put('text.image', "#(ds,new,)'")]
+        self.is_refused(names, self.CUT, 5)
+
+    def test_what_is_known_without_its_name(self):
+        image = self.saved(b"#(ds,A,b)#(cm,;)'")
+        self.assertEqual(piped('##(cl,A);', self.put('other', image)), ('b\n', '', 0))
+        names = [self.put(f'cut{length}', image[:length]) for length in range(1, len(image))]
+        self.is_refused(names, self.CUT, 5)
+        scripts = [self.put('script', "TRACED#(ps,a)'"), self.put('other', "TRAC\n#(ps,b)'")]
+        self.assertEqual(piped('', '--batch', *scripts), ('aTRACED\nbTRAC\n', '', 0))
+
+    def test_other_versions(self):
+        image = self.saved(b"#(ds,A,b)'")
+        names = [self.put(f'{version}.image', image[:4] + bytes([version]) + image[5:]) for version in (0, 2, 3, 255)]
+        self.is_refused([*names, self.put('other', b'TRAC\2')], 'the image is of another version', 5)
+
+    def test_in_too_few_cells(self):
+        self.saved(b"#(ds,A," + b'x' * 50 + b")#(ds,B,y)'")
+        self.put('list', "#(ps,##(ln,/))'")
+        self.assertEqual(piped('', '--batch', '--cells', '100', self.path('saved.image'), self.path('list')),
+                         ('/A/B\n', '', 0))
+        words = ['--batch', '--save', self.path('again.image')]
+        self.assertEqual(piped('', *words, '--cells', '59', self.path('saved.image')), ('', '', 0))
+        self.assertEqual(self.got('again.image'), self.got('saved.image'))
+        self.is_refused([self.path('saved.image')], 'the image needs more cells', 1, '--cells', '58')
+
+    def test_one_that_was_not_loaded_stays(self):
+        cut = self.put('cut.image', self.saved(b"#(ds,A,b)'")[:-1])
+        lines, status = piped("#(ds,new,b)'", '--batch', cut, '--save', cut)[1:]
+        self.assertEqual((lines, status), (f'trac_terminal: {cut}: {self.CUT}; nothing of it is defined\n'
+                                           "trac_terminal: the forms aren't saved, since a file wasn't read\n", 5))
+        self.assertEqual(len(self.got('cut.image')), 14 + 16 + 2 - 1)
+
+    def test_it_takes_the_place_at_once(self):
+        """An image is written as a script is: what was there stays where it can't be."""
+        image, calls = self.path('saved.image'), self.path('calls')
+        before = self.saved(b"#(ds,A,b)'")
+        words = [TERMINAL, '--save', image]
+        done = subprocess.run(['sh', '-c', 'trap "" XFSZ; ulimit -f 0; exec "$@"', 'sh', *words], input=b"#(ds,C,d)'",
+                              capture_output=True, check=False)
+        self.assertEqual((done.stderr.decode(), done.returncode),
+                         (f"trac_terminal: can't save {image}: File too large\n", 5))
+        for call in ('write', 'fsync', 'rename'):
+            subprocess.run(['strace', '-o', calls, '-e', f'inject={call}:signal=SIGKILL:when=1', *words],
+                           input=b"#(ds,C,d)'", stderr=subprocess.DEVNULL, check=False)
+            self.assertIn(call + '(', self.got('calls').decode())
+            self.assertEqual(self.got('saved.image'), before, call)
+        self.assertNotEqual(self.saved(b"#(ds,C,d)'"), before)
+
+    def test_what_they_are_not(self):
+        image, script = self.path('saved.image'), self.put('script', "#(xy)'")
+        cut = self.put('cut.image', self.saved(b"#(ds,A,b)'")[:-1])
+        self.assertEqual(piped('', '--check', image, cut, program=self.checked),
+                         ('', f'trac_terminal: {cut}: {self.CUT}; nothing of it is defined\n', 5))
+        self.assertEqual(piped('', '--check', self.path('none.image'))[2], 4)
+        self.assertEqual(piped('', '--convert', image), ('', f'trac_terminal: {image}: an image is no listing\n', 4))
+        self.assertEqual(piped('', '--check', '--with', image, script), ('', (
+            f"error: an image can't be run in front of what is checked: '--with {image}'\n\n"
+            "For more information, try '--help'.\n"), 2))
+        self.assertEqual(piped('##(cl,A)\'', '--quiet', '--with', image, script), ('b\n', '', 0))
+
+
 def mutated(chance, saved):
-    """A saved session that is cut, or of which a bit is flipped, or a line removed, added or swapped with another."""
+    """A saved session that is cut, or in which a bit is flipped, or a line removed, added or swapped with another."""
     text = saved
     while text == saved or not text:
         lines = saved.splitlines(keepends=True)

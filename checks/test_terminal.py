@@ -1,4 +1,4 @@
-"""Sessions: `trac_terminal` at a pseudo-terminal, from a pipe, and with files; what it says; forms that are saved."""
+"""`trac_terminal` at a pseudo-terminal, from a pipe, and with files; its messages; forms that are saved."""
 import functools
 import os
 import pty
@@ -42,7 +42,7 @@ def checked():
 
 
 def piped(script, *words, program=TERMINAL, **more):
-    """What a session writes, what it says on standard error, and its status."""
+    """The output of a session, what it prints on standard error, and its status."""
     script = script if isinstance(script, bytes) else script.encode()
     done = subprocess.run([program, *words], input=script, capture_output=True, timeout=60, **more)
     return done.stdout.decode(errors='replace'), done.stderr.decode(errors='replace'), done.returncode
@@ -54,14 +54,14 @@ def has_libedit(program):
 
 
 def built(folder, compiler, *flags):
-    """The program, built with these flags; the engine is as make built it."""
+    """The program, built with these flags; the engine is the one that make built."""
     program = os.path.join(folder, f'terminal{len(os.listdir(folder))}')
     subprocess.run([compiler, *STRICT, '-Wconversion', '-o', program, *SOURCES, ENGINE, *flags], check=True)
     return program
 
 
 class Room(unittest.TestCase):
-    """A case with a folder of its own."""
+    """A test case with its own folder."""
 
     def setUp(self):
         folder = tempfile.TemporaryDirectory()
@@ -132,7 +132,7 @@ class Typist:
 
 
 class Screen(Typist):
-    """The same at a terminal that can edit lines: what its screen shows."""
+    """The same at a terminal that can edit lines: what is on its screen."""
 
     ROWS, COLUMNS = 16, 72
 
@@ -150,20 +150,20 @@ class Screen(Typist):
             self.stream.feed(self.read(lambda: '\n'.join([f'not shown: {lines}', *self.lines()])))
 
     def waits_at(self, row, column):
-        """Waits until the cursor stands there, counted from 0, or in the last row instead."""
+        """Waits until the cursor is at this place, counted from 0, or in the last row instead."""
         wanted = min(row, self.ROWS - 1), column
         while (self.screen.cursor.y, self.screen.cursor.x) != wanted:
             self.stream.feed(self.read(lambda: '\n'.join([f'no cursor at {wanted}', *self.lines()])))
 
     def shows(self, *lines):
-        """Waits until the last lines of the screen are these, the cursor behind them."""
+        """Waits until the last lines of the screen are these, with the cursor after them."""
         wanted = [line.rstrip() for line in lines]
         while self.lines()[-len(lines):] != wanted or self.screen.cursor.y != len(self.lines()) - 1:
             self.stream.feed(self.read(lambda: '\n'.join([f'not shown: {wanted}', *self.lines()])))
 
 
 class AtATerminal(Room):
-    """Where lines are edited as the terminal does it."""
+    """Sessions in which the terminal edits lines."""
 
     def begin(self, *words, **env):
         typist = Typist('--quiet', *words, **env)
@@ -176,7 +176,7 @@ class AtATerminal(Room):
         self.assertEqual(typist.status(), 0)
 
     def stop(self, typist):
-        """Interrupts what runs."""
+        """Interrupts the running program."""
         typist.type('\x03')
         self.assertRegex(typist.wait('\n> '), r'^\^C\ntrac: stopped at step \d+\n> $')
 
@@ -308,7 +308,7 @@ class AtATerminal(Room):
             self.assertEqual(piped("##(cl,A)'", saved), ('b\n', '', 0))
 
     def shows(self, typist, line, shown):
-        """Types a line, behind which this is shown, and then the prompt."""
+        """Types a line, and expects that this and then the prompt is shown after it."""
         typist.type(line + '\n')
         self.assertEqual(typist.wait('\n> '), f'{line}\n{shown}> ')
 
@@ -356,7 +356,7 @@ class AtATerminal(Room):
 
 
 class Edited(Room):
-    """Where lines are edited by libedit: the screens of sessions, as they look."""
+    """Sessions in which libedit edits lines: what their screens look like."""
 
     @classmethod
     def setUpClass(cls):
@@ -388,7 +388,7 @@ class Edited(Room):
         screen.shows('> ##(cl,greeting,AaB)')
         screen.type("'\r")
         screen.shows("> ##(cl,greeting,AaB)'", 'Hello, AaB!', '> ')
-        # what did nothing
+        # calls that do nothing
         screen.type("#(foo,x)'\r")
         screen.shows("> #(foo,x)'", 'trac: no function foo', '> ')
         # ^C
@@ -444,7 +444,7 @@ class Edited(Room):
         full, wide = 'x' * Screen.COLUMNS, '\u4e00' * (Screen.COLUMNS // 2)
         for question, rows, shown in ((full[:-1], 1, full[:-1]), (full, 2, ''), (full + 'Name? ', 2, 'Name? '),
                                       (full * 2 + 'Name? ', 3, 'Name? '), (wide + 'Name? ', 2, 'Name? '),
-                                      # one that isn't shown again stands in a line of its own
+                                      # a prompt that isn't shown again is on a line of its own
                                       ('x' * 4000 + '?', 99, ''), ('Name\t? ', 2, ''),
                                       ('\x1b[1mName\x1b[m? ', 2, '')):
             with self.subTest(question=question):
@@ -466,6 +466,7 @@ class Edited(Room):
         screen.type('#(cl,\t\t')
         screen.shows('> #(cl,a', r'a\xe2\x80\xaeb  a\xe2\x81\xa6\xd8\x9c  a\xc2\x9bm  aé‰', '> #(cl,a')
         screen.type("\x15'\r")
+        screen.shows("> '", '> ')
         self.end(screen)
 
     def test_windows_that_can_not_be(self):
@@ -578,7 +579,7 @@ class Edited(Room):
 
 
 def screen_line(screen, start):
-    """The line of the screen that begins so, when it is there."""
+    """The line of the screen that begins with this text, when it is there."""
     while not any(line.startswith(start) for line in screen.lines()):
         screen.stream.feed(screen.read(lambda: '\n'.join(screen.lines())))
     return [line for line in screen.lines() if line.startswith(start)][-1:]
@@ -676,7 +677,7 @@ class Devices(Room):
         file = self.put('file', "#(ps,a)'#(ps,b)'")
         for words, step in (([], 1), (['--batch', file, file], 1), ([file, file], 1), ([], 2)):
             (output, lines, status), calls = traced([TERMINAL, *words], f'write:error=EIO:when={step}+')
-            # the line that tells of it isn't written either
+            # the line about it isn't written either
             self.assertEqual((lines, status), ('', 5))
             self.assertEqual([call[:8] for call in calls if call.startswith('write(1,')], ['write(1,'] * step)
             self.assertLessEqual(len(output), 5)
@@ -747,7 +748,8 @@ class Files(Room):
         output, lines, status = piped('', '--check', *files)
         looks = [line for line in output.splitlines(True) if ': it looks like an old listing' in line]
         self.assertEqual([os.path.basename(line.split(':')[0]) for line in looks],
-                         ['listing-3-cr-lf.trac', 'listing-7-left-out.trac'])
+                         ['27-typographic-apostrophe.trac', '32-line-end-as-meta.trac', 'listing-3-cr-lf.trac',
+                          'listing-7-left-out.trac'])
         self.assertEqual((''.join(line for line in output.splitlines(True) if line not in looks), lines, status),
                          (''.join(wanted), '', 7))
         clean, endless = self.put('clean', "#!trac_terminal\n#(ps,(a))'"), self.put('endless', LOOP)
@@ -919,7 +921,7 @@ class Saved(Room):
         cls.library = library()
 
     def save(self, script, *words):
-        """What is saved of a session that ran the script, and what was said."""
+        """The saved session after the script was run, and the messages."""
         file = self.put('script', script)
         output, lines, status = piped('', '--batch', '--quiet', '--save', self.path('saved'), file, *words,
                                       program=checked())
@@ -1065,7 +1067,7 @@ class Page(unittest.TestCase):
         self.assertNotIn('trac_trace', self.text)
 
     def test_its_lines_are_those_of_the_program(self):
-        """Why a saved session isn't loaded, and what is said of cells."""
+        """Why a saved session isn't loaded, and the messages about cells."""
         with open(os.path.join(HEADERS, 'saving.c'), encoding='utf-8') as file:
             said = re.findall(r'"trac_terminal: %s: ([^%"\\]+)', file.read())
         self.assertEqual(len(said), 2)
@@ -1087,7 +1089,7 @@ class Page(unittest.TestCase):
                          [*map(str, range(8)), 'signal'])
 
     def test_its_session(self):
-        """What stands behind a prompt is typed, and the rest is shown."""
+        """The text after a prompt is typed, and the rest is shown."""
         lines = [line[11:] for line in self.section('EXAMPLES').splitlines() if line.startswith(' ' * 11)]
         ended = 0
         with tempfile.TemporaryDirectory() as folder:

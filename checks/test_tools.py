@@ -1,5 +1,5 @@
-"""checks/tools: it says what it installs and why before it does so, is silent where nothing is missing, and names only
-what is missing where that can't be installed. Stand-ins for apt-get and dpkg-query leave the machine as it is."""
+"""checks/tools says what it installs and why before it does so, prints nothing if nothing is missing, and, if it can't
+install, names only what is missing. Stand-ins for apt-get and dpkg-query leave the machine unchanged."""
 import os
 import subprocess
 import tempfile

@@ -1,5 +1,5 @@
-"""Traces: the tables of steps of two scripts that were worked by hand, row by row, and what becomes
-of odd bytes and of faults."""
+"""Traces: the tables of steps of two scripts that were worked out by hand, row by row, and the lines for unusual bytes
+and for faults."""
 import os
 import re
 import resource
@@ -283,7 +283,7 @@ class Views(unittest.TestCase):
         self.assertEqual(shown[-1], ' ' * 4 + '#(b<,>) [no function]')
 
     def test_bytes_that_are_escaped_and_cut(self):
-        # characters are shown whole, and bytes that are none, or don't show, as escapes
+        # characters are shown whole; invalid and invisible bytes are shown as escapes
         for text, width, wanted in [
                 (b'abcdef', 6, 'abcdef'), (b'abcdef', 5, 'abc .. ef'),
                 ('\u00e4\u00e4\u00e4'.encode(), 3, '\u00e4 .. '),
@@ -345,7 +345,7 @@ class Costs(unittest.TestCase):
         lines, status = trace_bytes(script, *words, '--last', '20')
         self.assertIn(b'100000', lines)
         self.assertEqual(status, 3)
-        # so many instructions a step, whatever a run takes without a trace
+        # the instructions for each step, whatever a run takes without a trace
         most = 700 if TRACER == PROVED_TRACER else 1500
         self.assertLess(instructions([TRACER, *words, '--last', '20'], script), most * 100000)
 

@@ -1,5 +1,4 @@
-"""What trac_trace has in common with trac: its help, where that can't be written, and calls of the system
-that are interrupted."""
+"""What trac_trace has in common with trac: its help, also if it can't be written, and interrupted system calls."""
 import os
 import subprocess
 import unittest

@@ -1,5 +1,5 @@
-"""The engine in C as builders take it: in units that take about as long to compile and share nothing with what they
-are linked with, as a part of a program that includes it, and by CMake and Meson."""
+"""The engine in C as builders use it: in units that take about as long to compile and share no name with a program that
+they are linked with, included in a program, and built by CMake and Meson."""
 import os
 import re
 import subprocess
@@ -70,7 +70,7 @@ class Units(unittest.TestCase):
             self.assertLessEqual(max(sizes), sum(sizes) / 3, sizes)
 
     def test_they_share_nothing_with_others(self):
-        """Neither library has other names than the header, each of which can be exported."""
+        """Neither library has names other than those of the header, and each of these can be exported."""
         public = public_names()
         self.assertGreater(len(public), 25)
         self.assertEqual([name for name, is_exported in public.items() if not is_exported], [])
@@ -93,13 +93,13 @@ class Units(unittest.TestCase):
             self.assertRegex(said('readelf', '-sW', unit), r'DEFAULT +\d+ trac_run\n')
 
     def test_the_name_of_the_shared_library(self):
-        """It changes wherever trac_abi refuses a program."""
+        """The name changes whenever trac_abi refuses a program."""
         self.assertRegex(said('readelf', '-d', os.path.join(TOP, 'build', SHARED)), rf'soname: \[{SHARED}\]')
 
     def test_compilers_find_nothing_to_say(self):
         strict = ['-Wall', '-Wextra', '-Wpedantic', '-Werror']
         with tempfile.TemporaryDirectory() as room:
-            # tcc replaces what it writes, so that /dev/null would be no device any more
+            # tcc replaces its output file, so that /dev/null would no longer be a device
             compilers = (['clang', '-std=c11', '-fsyntax-only'], ['g++', '-std=c++17', '-fsyntax-only', '-x', 'c++'],
                          ['tcc', '-c', '-o', os.path.join(room, 'unit.o')])
             for unit in UNITS:

@@ -1,5 +1,5 @@
-"""Warnings: those of each script of examples/ are the lines kept beside it, none where no such file
-stands there; and a small script for each kind."""
+"""Warnings: for each script of examples/ they are the lines of the file beside it, and there are none if there is no
+such file; and a small script for each kind."""
 import glob
 import os
 import resource
@@ -46,7 +46,7 @@ KINDS = [
     (b"\xef\xbb\xbf#(ps,a)'", ['line 1, column 1: a byte order mark stands before the script']),
     (b"#(ds,L,(#(zz)#(ds,N,#(su,#(cl,N),1))#(gr,#(cl,N),0,(#(cl,L)))))#(ds,N,9)#(cl,L)'",
      ['line 1, column 9: in the value of L, column 1: no function has the name zz (9 times)']),
-    # an argument that is ignored: one that is written, and none that a value brings
+    # an ignored argument: only one that is written, and none that comes from a value
     (b"#(ps,Hello, world)'",
      ['line 1, column 12: the function takes no notice of the argument  world']),
     (b"#(ds,A,(x,y))#(ps,#(cl,A))'", []),
@@ -68,7 +68,87 @@ KINDS = [
     (b"#(ds,A,x)#(cc,A)#(cc,A)'",
      ['line 1, column 17: nothing is left, and no default value is given, of the form A']),
     (b"#(ds,A,x)#(cc,A)#(cc,A,z)'", []),
-    # what isn't protected
+    # in that finds nothing, although something of the form is left
+    (b"#(ds,A,(x;y))#(ps,#(in,A,;)#(in,A,;))'",
+     ['line 1, column 28: nothing is found, and no default value is given, in the form A']),
+    (b"#(ds,A,x-y)#(ss,A,-)##(in,A,xy)'",
+     ['line 1, column 21: nothing is found, and no default value is given, in the form A']),
+    (b"#(ds,A,xy)#(in,A,z,none)#(in,A)#(in,A,y)#(in,A,x)#(in,A,x)'", []),
+    (b"#(ds,A,xy)#(ds,B,b)#(eq,#(in,A,z),,no,yes)#(cl,B,##(in,A,z))'", []),
+    # what arithmetic and gr read as a number: digits, and the text before them; one line for each call
+    (b"#(ds,N,5)#(ps,#(ad,N,1))'",
+     ['line 1, column 15: this text is no number, but a form has the name; write #(cl,N']),
+    (b"#(ps,#(ad,two,three))'", ['line 1, column 6: a text without digits stands for the number 0: two']),
+    (b"#(ps,#(ad,1,1.5))'", ['line 1, column 6: only the digits at the end of a text are its number: 1.5']),
+    (b"#(ps,#(gr,3 ,2,yes,no))'",
+     ['line 1, column 6: only the digits at the end of a text are its number: 3 ']),
+    (b"#(ps,#(dv,1,x))'", ['line 1, column 6: a text without digits stands for the number 0: x']),
+    (b"#(ps,#(ad,,1)#(ad,a1,-2)#(dv,0,7)#(gr,-1,+2,a,b)#(eq,a,b,c,d))'", []),
+    # the texts of ss: it is enough if one is found; none need be found if none has a letter, or in the value of a form
+    (b"#(ds,G,(Hello Name))#(ss,G,NAMES)#(ps,#(cl,G,Ann))'",
+     ['line 1, column 28: this text stands nowhere in the form G']),
+    (b"#(ds,G,(Hello Name))#(ss,G,NAME)#(ps,#(cl,G,Ann))'",
+     ['line 1, column 28: this text stands only in other letters (capitals or small) in the form G']),
+    (b"#(ds,G,(Hi ADA))#(ss,G,Ada,X)'",
+     ['line 1, column 24: this text stands only in other letters (capitals or small) in the form G']),
+    (b"#(ds,G,(A a))#(ss,G,A)#(ss,G,a,B)#(cl,G)'", []),
+    (b"#(ds,G,(a X))#(ss,G,UNUSED,X)#(ps,#(cl,G,a,b))'", []),
+    (b"#(ds,G,abc)#(ss,G,-)'", []),
+    (b"#(ds,G,abc)#(ds,S,(#(ss,G,X)))#(cl,S)'", []),
+    # fewer arguments than gaps, once for each form; not without any argument, nor in a script that also calls the form
+    # without any, nor if the pointer was moved
+    (b"#(ds,G,(A and B, C))#(ss,G,A,B,C)#(ps,##(cl,G,x,y)##(cl,G,x,y)##(cl,G,x,y,))'",
+     ['line 1, column 39: fewer arguments than gaps: G has 3 gaps and got 2 arguments']),
+    (b"#(ds,G,(A and B))#(ss,G,A,B)#(ps,##(cl,G,x)#(CL,G))'", []),
+    (b"#(ds,G,(A and B))#(ss,G,A,B)#(ps,##(cl,G))'", []),
+    (b"#(ds,G,(A and B))#(ss,G,A,B)#(ps,##(cs,G,x)##(cl,G,x))'", []),
+    # a call that is printed, and nothing else; what is printed is the argument of ps, or all that a string leaves
+    (b"#(ps,(#(ps,x)))'", ['line 1, column 1: a call is printed here and not performed, of ps']),
+    (b"#(ps,a)' (##(AD,1,(2)) )'", ['line 1, column 9: a call is printed here and not performed, of AD']),
+    (b"#(ps,(#(ps,x) prints x))#(ps,(#(zz,x)))#(ps,(#(ps,x)#(ps,y)))#(ps,(# (ps,x)))'", [
+        'line 1, column 68: a blank behind a number sign: no call begins here']),
+    # CR or LF as the meta character, where lines end with both
+    (b"#(cm,(\r\n))'\r\n#(ps,a)\r\n",
+     ['line 1, column 1: lines end with CR and LF, of which one becomes the meta character: \\r\\n']),
+    (b"#(cm,(\n))'\n#(ps,a)\n", []),
+    (b"#(cm,;)'\r\n#(ps,a);\r\n", []),
+    # a text of ss inside longer words, if it also stands by itself, in small letters
+    (b"#(ds,F,(a cat sat at a mat))#(ss,F,a)#(ps,##(cl,F,the))'",
+     ['line 1, column 29: a text of ss also stands inside longer words: a']),
+    (b"#(ds,F,(a cat sat at a mat))#(ss,F,at)#(ds,G,(N and NEW))#(ss,G,N)#(ds,H,(i/o))#(ss,H,o)'", [
+        'line 1, column 29: a text of ss also stands inside longer words: at']),
+    # names that are nearly those of functions, in calls that are never performed: once for each name
+    (b"#(eq,a,a,(#(ps,x)),(#(pss,y)#(pss,z)))'", ['line 1, column 21: no function has the name pss']),
+    (b"#(ds,F,(#(sp,x)#(add,1,2)#(zzz)#(plus,1)#(a,1)#(p,s,x)#(sb,x)))'",
+     ['line 1, column 9: no function has the name sp', 'line 1, column 16: no function has the name add']),
+    (b"#(pss,x)#(ds,F,(#(pss,y)))'", ['line 1, column 1: no function has the name pss']),
+    # the arguments of cl: the first without a gap, once for each form; not if the pointer was moved, the body is null,
+    # or the argument comes from a value
+    (b"#(ds,G,(X and Y))#(ss,G,X,Y)#(ps,#(cl,G,a,b,c)#(cl,G,a,b,c))'",
+     ['line 1, column 45: no gap is there for this argument in the form G']),
+    (b"#(ds,G,(Y X))#(ss,G,X,Y)#(ps,#(cl,G,a,b,)#(cl,G))'", []),
+    (b"#(ds,G,)#(ps,#(cl,G,a))'", []),
+    (b"#(ds,G,ab)#(ps,#(cc,G)#(cl,G,x))'", []),
+    (b"#(ds,G,(XY))#(ss,G,X)#(ds,A,(1,2))#(ps,#(cl,G,#(cl,A)))'", []),
+    (b"#(ss,G,X)#(ds,G,(Hi X))#(ps,#(cl,G,Ann))'", ['line 1, column 1: no form has the name G']),
+    # cl of a form whose pointer is at its end
+    (b"#(ds,L,ab)#(cs,L)#(ps,#(cl,L))'",
+     ['line 1, column 23: nothing is left of the form; to begin it again, write #(cr,L']),
+    (b"#(ds,L,ab)#(cs,L)#(eq,#(cl,L),,(#(ps,end)),(#(ps,more)))'", []),
+    # blanks and line ends around a name and around the texts that eq compares
+    (b"#(ds,tea,5)#(ps,#(cl, tea ))'", ['line 1, column 17: no form has this name, but one has it without the '
+                                        'blanks or line ends around it:  tea ']),
+    (b"#(ds,tea,5)#(ps,#(cl,##(rs)))'tea\n'", ['line 1, column 17: no form has this name, but one has it without '
+                                                'the blanks or line ends around it: tea\\n']),
+    (b"#(ds,tea,5)#(ps,#(eq,#(cl,tea ),,a,b))'", []),
+    (b"#(ps,#(eq,yes ,yes,a,b))'",
+     ['line 1, column 6: the sides of eq differ only by blanks or line ends around them: yes ']),
+    (b"#(ps,#(eq, ,,a,b)#(eq,yes,no,a,b)#(eq,a b,ab,a,b))'", []),
+    # capitals and small letters of the texts that eq compares
+    (b"#(ps,#(eq,Yes,yes,a,b))'",
+     ['line 1, column 6: the sides of eq differ only in capitals and small letters: Yes']),
+    (b"#(ps,#(eq,Yes ,yes,a,b)#(eq,a1,A2,a,b)#(eq,@,`,a,b)#(eq,[,{,a,b)#(eq,Yes,Yes,a,b))'", []),
+    # unprotected calls
     (b"#(ds,A,#(hl))'",
      ['line 1, column 8: hl ends the run before the call around it is performed, which is of ds']),
     (b"#(eq,a,a,(#(hl)))'", []),
@@ -103,6 +183,12 @@ KINDS = [
     (b"#(ps,a);\n",
      ['line 1, column 1: no meta character ends the string',
       "line 1, column 8: no apostrophe ends a string; where this byte is to end it, write #(cm,X)' first: ;"]),
+    # a typographic apostrophe at the end, unless another byte was made the meta character
+    (b"#(ps,a)\xe2\x80\x99\n", ["line 1, column 8: a typographic apostrophe ends no string; write ' for it"]),
+    (b"#(ps,a)'#(ps,b)\xe2\x80\x99 \r\n",
+     ["line 1, column 16: a typographic apostrophe ends no string; write ' for it"]),
+    (b"#(cm,;)'#(ps,b)\xe2\x80\x99\n", ['line 1, column 9: no meta character ends the string']),
+    (b"#(ps,a)\xe2\x80\x99\n#(ps,b)'", []),
     (b"", []),
 ]
 
@@ -116,7 +202,7 @@ def wanted(path):
 
 
 def check(*names):
-    """What `--check` writes, what it says on standard error, and the status."""
+    """The output of `--check`, what it prints on standard error, and the status."""
     done = subprocess.run([TRACER, '--check', *names], capture_output=True, text=True, timeout=60)
     return done.stdout.splitlines(), done.stderr, done.returncode
 
@@ -153,7 +239,7 @@ class Warnings(unittest.TestCase):
 
     def test_each_broken_script_is_told(self):
         broken = sorted(glob.glob(os.path.join(FOLDER, 'broken', '*.trac')))
-        self.assertEqual(len(broken), 24)
+        self.assertEqual(len(broken), 40)
         for path in broken:
             with self.subTest(script=path):
                 self.assertGreater(len(wanted(path)), 0)

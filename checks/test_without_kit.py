@@ -1,5 +1,5 @@
 """`make page`, `make npm` and `make dist` in a fresh clone without the kit: the page and the package for JavaScript
-need Python alone, and what is handed out lacks the proved programs and the proved library, which is told."""
+need only Python, and `make dist` says that the proved programs and the proved library are missing."""
 import base64
 import gzip
 import json
@@ -14,7 +14,7 @@ import unittest
 from test_launcher import tracked
 from trac import TOP, make
 
-# What stands on the path of a machine with Python alone. The Makefile asks find what is newer.
+# The commands on the path of a machine with only Python. The Makefile uses find to see what is newer.
 PLAIN = ['sh', 'make', 'find', 'ls', 'cat', 'cp', 'cut', 'date', 'mv', 'mkdir', 'sed', 'sync', 'python3']
 # Where no rt is found.
 PATH = '/usr/bin:/bin'

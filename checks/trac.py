@@ -1,7 +1,7 @@
 """Runs the built programs on a script, and counts their instructions.
 
-The checks of this folder need no kit. They run the programs in C, or those that TRAC and TRACER name in the
-environment. Those of proved/ need the proved programs or the proved library."""
+The checks of this folder need no kit. They run the programs in C, or those that TRAC and TRACER in the environment
+name. Those of proved/ need the proved programs or the proved library."""
 import os
 import re
 import subprocess
@@ -23,7 +23,7 @@ TERMINAL = os.path.join(TOP, 'build', 'trac_terminal')
 
 
 def crates_of(crate):
-    """A crate of the repository and those that it stands on, in the order of crates.txt."""
+    """A crate of the repository and those that it depends on, in the order of crates.txt."""
     with open(os.path.join(TOP, 'crates.txt'), encoding='utf-8') as lines:
         rows = [line.split('#')[0].split(':') for line in lines]
     uses = {row[0].split()[0]: row[1].split() for row in rows if len(row) == 2}
@@ -37,14 +37,14 @@ def crates_of(crate):
 
 
 def make(*targets):
-    """Makes targets of the Makefile that aren't there or aren't current."""
+    """Makes the targets of the Makefile that are missing or out of date."""
     done = subprocess.run(['make', '-s', *targets], cwd=TOP, capture_output=True, text=True, check=False)
     if done.returncode:
         raise AssertionError(done.stdout + done.stderr)
 
 
 def run(script, *words, **more):
-    """What the program writes, what it says on standard error, and its status."""
+    """The program's output, what it prints on standard error, and its status."""
     if isinstance(script, str):
         script = script.encode()
     done = subprocess.run([PROGRAM, *words], input=script, capture_output=True, timeout=60, **more)
@@ -65,7 +65,7 @@ def trace(script, *words):
 
 
 def whole_trace(script, *words):
-    """The same, with strings of any length as they are."""
+    """The same, with strings of any length, uncut."""
     return trace(script, '--width', '0', *words)
 
 

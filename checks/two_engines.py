@@ -1,6 +1,6 @@
-"""What holds of two engines in one program: every short script in every room and with every allowance, and what a
-fuzzer thinks of in some seconds. LETTERS and LENGTH in the environment say which scripts: with LENGTH=7 all of seven
-bytes are run, which takes four processors some minutes. checks/fuzz/run says how to fuzz for a night."""
+"""Checks of two engines in one program: every short script in every room and with every allowance, and the scripts that
+a fuzzer generates in some seconds. LETTERS and LENGTH in the environment say which scripts: with LENGTH=7 all scripts
+of seven bytes are run, which takes some minutes on four processors. checks/fuzz/run says how to fuzz for a night."""
 import os
 import re
 import subprocess
@@ -9,14 +9,14 @@ from c_api import HEADERS, STRICT
 from trac import TOP
 
 CHECKS = os.path.join(TOP, 'checks')
-# They name functions that define, read, print and halt, or a form.
+# These letters name functions that define, read, print and halt, or a form.
 LETTERS = os.environ.get('LETTERS', 'psrhl psdAl').split()
 SECONDS = 10
 
 
 class TwoEngines:
-    """`first` and `second` are objects or libraries, and the names of the second have c_ in front; of the fuzzer,
-    `fuzzed` has these as its program wants them. Scripts have up to `length` bytes."""
+    """`first` and `second` are objects or libraries; the names of the second begin with c_. `fuzzed` has the same two
+    in the form that the fuzzer needs. Scripts have up to `length` bytes."""
     length = 6
     fuzzed = {}
 

@@ -1,4 +1,4 @@
-"""Tries a processor on the cases of this folder: python3 run.py [--plain] PROGRAM [WORD ..]"""
+"""Tests a processor with the cases of this folder: python3 run.py [--plain] PROGRAM [WORD ..]"""
 import os
 import pathlib
 import re

@@ -1,5 +1,5 @@
-"""Writes the cases of scanning, functions, characters and limits as statements on the definition's run,
-which the checker computes: python3 statements.py"""
+"""Writes the cases of scanning, functions, characters and limits as statements about the definition's run, which the
+checker computes: python3 statements.py"""
 import pathlib
 import re
 

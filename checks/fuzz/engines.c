@@ -18,7 +18,7 @@ static void must(int holds) {
         abort();
 }
 
-/* What is seen of a machine: numbers; both strings as far as they fit, from a place on; and the open calls. */
+/* What is seen of a machine: numbers; both strings, as far as they fit, from a place on; and the open calls. */
 typedef struct {
     uint32_t numbers[11], neutral[MOST_ITEMS], active[MOST_ITEMS], calls[MOST_ITEMS];
 } view;

@@ -1,4 +1,4 @@
-/* What a program for RV32 asks of Linux, where no C library for both is packaged: its start, and five calls. */
+/* What a program needs of Linux on RV32, for which Debian packages no C library: its start, and five system calls. */
 #include <errno.h>
 #include <stddef.h>
 #include <stdint.h>

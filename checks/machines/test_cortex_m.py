@@ -1,5 +1,6 @@
 """The examples for a Cortex-M3 in C and in Rust, in QEMU: a script and a session over the serial line in 16 KB of RAM,
-and once more in 8 KB with 64 cells; and the tables of sizes in the page on embedding."""
+and the same in 8 KB with 64 cells; forms that survive a reset; and the tables of sizes in the page on
+embedding."""
 import os
 import re
 import shutil
@@ -16,6 +17,8 @@ QEMU = ['qemu-system-arm', '-M', 'mps2-an385', '-nographic', '-monitor', 'none',
 SESSION = ("#(ds,F,(#(eq,N,1,1,(#(ml,N,#(cl,F,#(su,N,1)))))))#(ss,F,N)'#(ps,(5! = )#(cl,F,5)(\n))'"
            "#(cl,F,-1)'#(pf,F)'#(hl)'")
 SHORT = "#(ds,F,a-b)#(ss,F,-)'##(cl,F,+)'#(hl)'"
+# A byte that the serial line has when the board is reset is lost.
+LOST = '\n\n\n'
 
 
 class Board:
@@ -28,14 +31,14 @@ class Board:
         cls.addClassCleanup(shutil.rmtree, cls.top)
 
     def build(self, ram, cells):
-        """What `make` says of the program's sizes."""
+        """The output of `make` about the program's sizes."""
         done = subprocess.run(['make', '-s', 'session.elf', f'RAM={ram}', *self.words(cells)], cwd=self.place,
                               capture_output=True, text=True, check=False)
         self.assertEqual(done.returncode, 0, done.stderr)
         return map(int, re.search(r'^ +text.*\n(.*)', done.stdout, re.MULTILINE)[1].split()[:3])
 
     def run_there(self, ram, cells, typed):
-        """The sizes of the program, and what it says where this is typed."""
+        """The sizes of the program, and its output when this is typed."""
         text, data, bss = self.build(ram, cells)
         with subprocess.Popen([*QEMU, 'session.elf'], cwd=self.place, stdin=subprocess.PIPE, stdout=subprocess.PIPE,
                               text=True) as running:
@@ -80,6 +83,25 @@ class InC(Board, unittest.TestCase):
 
     def words(self, cells):
         return [f'CELLS={cells}', f'ENGINE={TOP}/hosts/c', '-B']
+
+    def test_forms_are_there_again_after_a_reset(self):
+        for ram, cells in ((16384, 256), (8192, 64)):
+            typed = ("#(ds,F,a-b)#(ss,F,-)#(cm,;)'", '#(save);', '#(ds,F,other);', '#(reset);', LOST,
+                     '#(ps,##(cl,F,+));', '#(da);', '#(save);', '#(reset);', LOST, '#(ps,[##(ln,/)]);', '#(hl);')
+            with self.subTest(ram=ram):
+                _, said = self.run_there(ram, cells, ''.join(typed))
+                lines = [line for line in said.splitlines() if line and not line.startswith('stack ')]
+                self.assertEqual(lines, ['hello', '[saved]', 'hello', '[loaded]', 'a+b[saved]', 'hello', '[loaded]',
+                                         '[]'])
+
+    def test_forms_that_the_page_can_not_hold(self):
+        """The page has 1,020 bytes for an image: 14, for each form 16 and its name, and 119 gaps of 8."""
+        for last, said_so in ((39, '[saved]'), (40, '[too long to be saved]')):
+            typed = ''.join(f"#(ds,{name},{'.' * count})'#(ss,{name},.)'" for name, count in zip('ABC', (40, 40, last)))
+            _, said = self.run_there(16384, 256, f"{typed}#(save)'#(reset)'{LOST}#(ps,<##(ln,/)>)'#(hl)'")
+            self.assertIn(said_so + '\n', said)
+            self.assertEqual('[loaded]\n</A/B/C>' in said, last == 39)
+            self.assertEqual('<>' in said, last == 40)
 
 
 class InRust(Board, unittest.TestCase):

@@ -1,5 +1,5 @@
-"""The program in C on machines of other kinds, of 32 and 64 bits and of both orders of bytes, each emulated, and
-compiled in other ways on this one: it meets the cases of conformance/."""
+"""The program in C on emulated machines of other kinds, with 32 and 64 bits and of either byte order, and compiled with
+other options on this machine: it meets the cases of conformance/. Images of forms have the same bytes on each."""
 import os
 import subprocess
 import sys
@@ -54,6 +54,20 @@ class Emulated(Cases):
     def test_compilers_that_do_not_tell_the_order_of_bytes(self):
         self.meets_them_on('s390x', '-U__BYTE_ORDER__')
         self.meets_them_on('aarch64', '-U__BYTE_ORDER__')
+
+
+class Images(unittest.TestCase):
+    def test_they_have_the_same_bytes(self):
+        """Those that are worked by hand, and those that a writer of its own makes of random forms; mutated, too."""
+        for kind, compiler in KINDS.items():
+            with self.subTest(kind=kind), tempfile.TemporaryDirectory() as place:
+                program = os.path.join(place, 'images')
+                subprocess.run([compiler, '-std=c11', '-O0', '-static', '-I', HERE, '-o', program,
+                                os.path.join(TOP, 'checks', 'fuzz', 'images.c')], check=True)
+                done = subprocess.run([f'qemu-{kind}', program, '2000', '0'], capture_output=True, text=True,
+                                      timeout=600, check=False)
+                self.assertEqual((done.stderr, done.returncode), ('', 0))
+                self.assertRegex(done.stdout, r'^2000 mutations, \d\d\d taken\n$')
 
 
 class Optimized(Cases):

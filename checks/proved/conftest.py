@@ -1,4 +1,4 @@
-"""The checks of this folder run the proved programs, those of checks/ that they take over too."""
+"""Makes the checks of this folder run the proved programs, also in the checks that they take over from checks/."""
 import os
 
 TOP = os.path.dirname(os.path.dirname(os.path.dirname(os.path.abspath(__file__))))

@@ -1,8 +1,7 @@
-"""A program that reads the block while the machine over it is still used doesn't compile: the
-borrow checker refuses it.
+"""A program doesn't compile if it reads the block while the machine over it is still used: the borrow checker refuses
+it.
 
-The programs stand in a throw-away repository, with a copy of the engine's sources.
-"""
+The programs are in a temporary repository, with a copy of the engine's sources."""
 import os
 import re
 import shutil
@@ -36,7 +35,7 @@ AFTER_ITS_LAST_USE = """let _ = machine.run(&mut source, &mut sink);
 
 
 def lines_of_crates():
-    """What the throw-away repository says of its crates."""
+    """The list of crates of the temporary repository."""
     with open(os.path.join(TOP, 'crates.txt'), encoding='utf-8') as file:
         lines = [line for line in file if line.split(':')[0] in CRATES]
     return ''.join(lines) + 'reader: trac_core\n'
@@ -44,7 +43,7 @@ def lines_of_crates():
 
 class Borrowing(unittest.TestCase):
     def answer(self, body, *words):
-        """Whether rt answers 0 on a program with this body, and what it says."""
+        """Whether rt answers 0 for a program with this body, and its messages."""
         with tempfile.TemporaryDirectory() as top:
             place = os.path.join(top, 'crates', 'reader')
             os.makedirs(os.path.join(place, 'src'))

@@ -1,5 +1,6 @@
-"""Which branches of the engine in C are taken in runs that are compared with the proved library: scripts by a grammar,
-the cases and the examples, at once, by turns, by trac_check and by the rest of trac.h. Everything is the same."""
+"""Which branches of the engine in C are taken in runs that are compared with the proved library: scripts from a
+grammar, the cases and the examples, in one run, in turns, by trac_check, with functions of the host, with forms from
+outside and their images, and by the rest of trac.h. All results are the same."""
 import glob
 import os
 import re
@@ -14,8 +15,10 @@ CHECKS = os.path.join(TOP, 'checks')
 HEADERS = os.path.join(TOP, 'hosts', 'c')
 PROVED = os.environ.get('PROVED', os.path.join(TOP, 'dist', 'libtrac.a'))
 SEED, COUNT = 1, int(os.environ.get('COUNT', 3000))
-# Of the branches this many percent at the least; what is taken is printed.
-LEAST = 50
+# The least percentage of the branches; the percentage that is taken is printed.
+LEAST = 60
+# Each branch counts once, also where it is a part of several functions.
+ONCE = '-D__OPTIMIZE_SIZE__'
 AMPLE = b'\xff\xff\x07\x1f\x0f'
 
 
@@ -38,7 +41,7 @@ class Branches(unittest.TestCase):
     def test_what_is_taken(self):
         with tempfile.TemporaryDirectory() as self.folder:
             self.run_in(os.path.join(CHECKS, 'engines'), 'gcc', os.path.join(self.folder, 'in_c.o'), '-O0', '-w',
-                        '--coverage')
+                        '--coverage', ONCE)
             self.run_in('gcc', '-std=c11', '-O1', '-w', '--coverage', '-DCELLS=32u', '-DSTEPS=64u', '-DMOST_CELLS=8192',
                         '-I', HEADERS, '-I', CHECKS, '-o', 'covering', os.path.join(CHECKS, 'covering.c'),
                         os.path.join(CHECKS, 'fuzz', 'engines.c'), 'in_c.o', PROVED)

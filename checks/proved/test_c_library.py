@@ -1,6 +1,5 @@
-"""The library for C, through a C program over trac.h: each script does there what it does in the
-built program, and each step shows what trac_trace shows. The header is accepted by two compilers, and
-by C++."""
+"""The library for C, through a C program over trac.h: each script does there what it does in the built program, and
+each step shows what trac_trace shows. Two compilers accept the header, also as C++."""
 import os
 import re
 import shutil
@@ -30,7 +29,7 @@ RULES = ('idling', 'layout', 'protection', 'argument', 'active call', 'neutral c
 MARKS = {256: '<#>', 257: '<##>', 258: '<,>'}
 ESCAPED = {9: r'\t', 10: r'\n', 13: r'\r', 92: r'\\'}
 
-# Bytes of stack that trac_run needs beside what its caller has.
+# The bytes of stack that trac_run needs in addition to its caller's.
 STACK = 8 * 1024
 
 

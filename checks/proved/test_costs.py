@@ -1,6 +1,5 @@
-"""Cost of each function: a script that grows fourfold takes no more than its bound does, and a
-quarter of that. The bounds are those of docs/PERFORMANCE.md, in cells; the cost is counted in
-instructions, the start left out."""
+"""The cost of each function: if a script grows fourfold, its cost grows by at most a quarter more than its bound. The
+bounds are those of docs/PERFORMANCE.md, in cells; the cost is counted in instructions, without the start."""
 import functools
 import unittest
 from concurrent.futures import ThreadPoolExecutor

@@ -1,5 +1,5 @@
-"""The program that the page on embedding makes, word for word: its commands and its files, in a copy
-of the crates with their built libraries."""
+"""The program that the page on embedding makes, word for word: its commands and its files, in a copy of the crates with
+their built libraries."""
 import os
 import re
 import shutil

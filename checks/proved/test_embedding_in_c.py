@@ -1,5 +1,5 @@
-"""The programs in C of the page on embedding, in C and in C++, and Python's ctypes, over the proved library: they print
-what they print over the engine in C."""
+"""The programs in C of the page on embedding, in C, in C++ and through Python's ctypes, print with the proved library
+what they print with the engine in C."""
 import os
 import unittest
 

@@ -1,4 +1,4 @@
-"""The proved library in one program with each of the others, the engine in C and the crate for Rust."""
+"""The proved library in one program with each of the other engines: the engine in C and the crate for Rust."""
 import os
 import shutil
 import subprocess

@@ -1,5 +1,5 @@
-"""hosts/c/trac_engine.c and hosts/wasm/trac.wasm are what the sources give, byte for byte where the kit is the one that
-they were made with."""
+"""hosts/c/trac_engine.c and hosts/wasm/trac.wasm are generated from the sources: byte for byte, if the kit is the one
+that they were made with."""
 import os
 import subprocess
 import unittest

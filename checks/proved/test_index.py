@@ -1,4 +1,4 @@
-"""The index of the forms, which comes and goes with the free cells, in many rooms."""
+"""The index of the forms, which is built and dropped depending on the free cells, in many rooms."""
 import random
 import unittest
 
@@ -7,8 +7,8 @@ from trac import report, trace
 
 
 def many_forms():
-    """Strings over some forms, called, redefined, cut and removed in no order, so often that an
-    index of them is made; a long text now and then takes the cells in which it lies."""
+    """Strings over some forms, which are called, redefined, cut and removed in random order, so often that an index of
+    them is built; sometimes a long text takes the cells of the index."""
     draw = random.Random(13)
     names = [f'form{i}' for i in range(24)]
     calls = [f'#(ds,{name},a-{name})' for name in names]
@@ -48,11 +48,11 @@ def crowded_forms():
 
 
 class Index(unittest.TestCase):
-    """An index of the forms lies in free cells: in each room it comes and goes elsewhere, and
-    nothing may depend on it."""
+    """An index of the forms uses free cells: in each room it is built and dropped at other times, and no result may
+    depend on it."""
 
     def steps(self, script, cells):
-        """For each step its need, what was printed before it, the size before it, and its rule."""
+        """For each step its need, the output before it, the size before it, and its rule."""
         printed, found = '', []
         for line in trace(script.encode(), '--steps', '1000000', '--cells', str(cells))[0][1:-1]:
             if line.startswith('        prints: '):
@@ -85,9 +85,9 @@ class Index(unittest.TestCase):
         self.assertEqual(status, 0)
         steps = self.steps(script, peak)
         self.assertEqual((len(steps), max(step[0] for step in steps)), (count, peak))
-        # the first call that ends is the one that reads, and each of those behind it defines a form
+        # the first call that ends is the one that reads, and each call after it defines a form
         ends = [i for i, step in enumerate(steps) if step[3] == 'end of call']
-        # 12 forms have an index of 64 cells, 16 and more one of 128; below 12 there is none
+        # 12 forms have an index of 64 cells, 16 and more have one of 128; fewer than 12 have none
         for first, last, cells in ((ends[12] + 1, ends[16], 64), (ends[16] + 1, count - 1, 128)):
             # the parenthesis that ends a call has left when the call looks for a form
             free = max(peak - (step[2] - 1) for step in steps[first:last + 1])

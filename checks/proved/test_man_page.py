@@ -14,7 +14,7 @@ EXAMPLE = re.compile(r'^ +\$ printf "(.*)" \| trac (.*)\n((?: {11}\S.*\n)+)', re
 
 
 def formatted(page=PAGE):
-    """A page as lines of 500 columns, and what man says of it on standard error."""
+    """A page as lines of 500 columns, and the messages of man on standard error."""
     done = subprocess.run(['man', '--warnings', '-l', page], capture_output=True,
                           env={**os.environ, **WIDE})
     return done.stdout.decode(), done.stderr.decode(), done.returncode
@@ -31,7 +31,7 @@ def next_name(text, name):
 
 
 def entries(text):
-    """The tagged paragraphs of a section: what each is about, and its text."""
+    """The tagged paragraphs of a section: the tag and the text of each."""
     found = re.findall(r'^ {7}(\S.*)\n((?: {14}.*\n?)+)', text, re.MULTILINE)
     short = re.findall(r'^ {7}(\d+|signal) +(\S.*)$', text, re.MULTILINE)
     return {tag: words.strip() for tag, words in found + short}

@@ -1,5 +1,5 @@
-"""The page shows the steps that trac_trace shows, with both strings, the rule and the cells of each, and saves their
-trace."""
+"""The page shows the steps that trac_trace shows, with both strings, the rule and the cells of each, and saves them as
+a trace."""
 import re
 import unittest
 

@@ -1,7 +1,8 @@
-"""The program in C, and that over the crate for Rust, beside the proved one: on every row, case, example and exercise,
-every device that is closed, full or none, and command lines that are refused, each writes and says the same as that
-one, and ends with the same status. The tips of the proved program's command line aside, which the others haven't; and
-what the one in Rust says of a command line that is refused, and does with a standard device that can't be used."""
+"""The program in C, and the program over the crate for Rust, compared with the proved one: on every worked script,
+case, example and exercise, with every device closed, full or missing, and on command lines that are refused, each has
+the same output, messages and status. There are two exceptions: the tips of the proved program's command line, which the
+others lack; and, for the program in Rust, its messages about refused command lines and its behaviour with a standard
+device that can't be used."""
 import glob
 import os
 import pathlib
@@ -44,7 +45,7 @@ LINES = [words.split() for words in REFUSED] + [
 
 
 def run(program, script, *words, **more):
-    """What a program writes, what it says, and its status."""
+    """The output of a program, its messages, and its status."""
     done = subprocess.run([program, *words], input=script, capture_output=True, timeout=60, **more)
     return done.stdout, TIP.sub(b'', done.stderr), done.returncode
 

@@ -1,6 +1,6 @@
-"""Calls whose one request for memory is refused, as tests of the program make them, which say so: a
-block, and a run in a block of its own. What the program asks for while it reads its words is refused
-by test_memory, request by request."""
+"""Calls whose one request for memory is refused: making a block, and a run in a block of its own. Tests of the program
+make these calls and say what happened. test_memory refuses, one by one, the requests that the program makes while it
+reads its words."""
 import os
 import subprocess
 import unittest
@@ -9,7 +9,7 @@ from trac import TOP
 
 
 def said(test, request):
-    """What a test of the program says where the request of that number is refused."""
+    """The output of a test of the program when the request with that number is refused."""
     words = ['rt', 'try', '--test', '--fail-alloc', str(request), '--', f'tests::{test}']
     done = subprocess.run(words, cwd=os.path.join(TOP, 'crates', 'trac_cli'), check=True,
                           stdin=subprocess.DEVNULL, capture_output=True, text=True)

@@ -1,4 +1,4 @@
-"""What `make dist` makes where the kit is."""
+"""What `make dist` makes with the kit."""
 import os
 import unittest
 

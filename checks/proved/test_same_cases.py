@@ -1,4 +1,4 @@
-"""The cases of checks/ that need no kit, over the proved programs."""
+"""The cases of checks/ that need no kit, run with the proved programs."""
 import test_memory
 from test_conformance import Conformance
 from test_examples import Examples, Exercises

@@ -1,8 +1,7 @@
-"""Cost that grows with the length of the strings or the number of forms.
+"""The cost that grows with the length of the strings or the number of forms.
 
-The cost is counted in instructions, which no other work on the machine changes. The limits are
-about one and a half times what a run takes, but where two runs are compared.
-"""
+The cost is counted in instructions, which don't depend on other work of the machine. The limits are about one and a
+half times what a run takes, except where two runs are compared."""
 import itertools
 import random
 import unittest
@@ -10,7 +9,7 @@ import unittest
 from trac import PROGRAM, instructions, run
 
 ROOM = ['--cells', '4000000', '--steps', '100000000']
-# The slots that an index of 500 forms has where it is made for four times as many.
+# The slots of an index of 500 forms that is built for four times as many.
 SLOTS = 4096
 
 
@@ -30,8 +29,7 @@ def names_of_one_slot(count):
 
 
 def calls_at_random(names):
-    """A script that defines forms and calls them 20,000 times, each by a string of its own, and
-    what it prints."""
+    """A script that defines forms and calls them 20,000 times, each in its own string, and its output."""
     draw = random.Random(20000)
     strings = [f'#(ds,{name},v{i})' for i, name in enumerate(names)]
     called = draw.choices(range(len(names)), k=20000)
@@ -45,7 +43,8 @@ class Speed(unittest.TestCase):
         cls.start = instructions([PROGRAM, *ROOM], b"'")
 
     def takes_at_most(self, limit, parts, script, wanted):
-        """That a script of so many parts prints what is wanted, and what each part may take."""
+        """A script with a number of parts prints what it should, and each part takes at most a number of
+        instructions."""
         output, lines, status = run(script, *ROOM)
         self.assertEqual((len(output), lines, status), (len(wanted), '', 0))
         self.assertEqual(output, wanted)

@@ -1,6 +1,6 @@
-"""The tracer in C beside the proved one: on every row and example by each view, on random scripts in few and in many
-cells, on devices that are closed, full or none, and on command lines, each writes and says the same as that one, and
-ends with the same status. COUNT in the environment says how many random scripts: COUNT=5000 takes some minutes."""
+"""The tracer in C, compared with the proved one: on every worked script and example with each view, on random scripts
+in few and in many cells, with devices that are closed, full or missing, and on command lines, each has the same output,
+messages and status. COUNT in the environment is the number of random scripts: COUNT=5000 takes some minutes."""
 import glob
 import os
 import random

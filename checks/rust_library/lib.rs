@@ -1,10 +1,11 @@
 //! The crate trac-t64 behind the exports of the engine for C, so that one caller can compare the engines. The modules
-//! are those of crates/trac_c without their contracts, which rust_library.py adds. The check of a script and steps that
-//! are shown are missing: the crate has no part for these.
+//! are those of crates/trac_c without their contracts, which rust_library.py adds. The check of a script, steps that are
+//! shown and the sources of values are missing: the crate has no part for these.
 #![allow(improper_ctypes_definitions, unsafe_op_in_unsafe_fn, unused_imports)]
 
 extern crate trac_t64 as trac_core;
 extern crate trac_t64 as trac_devices;
+extern crate trac_t64 as trac_image;
 extern crate trac_t64 as trac_language;
 
 /// What the exports take of `trac_space`, of which the crate hands on less.
@@ -16,6 +17,40 @@ mod cells {
             Cell::Byte(byte) => *byte,
             _ => 0,
         }
+    }
+}
+
+/// What the exports take of `trac_checker`: a sink that keeps nothing.
+mod checker {
+    use trac_t64::{Sink, SinkFailed};
+
+    pub(crate) struct Unkept;
+
+    impl Unkept {
+        pub(crate) fn new() -> Unkept {
+            Unkept
+        }
+    }
+
+    impl Sink for Unkept {
+        fn put(&mut self, _byte: u8) -> Result<(), SinkFailed> {
+            Ok(())
+        }
+
+        fn flush(&mut self) -> Result<(), SinkFailed> {
+            Ok(())
+        }
+
+        fn failures(&self) -> u64 {
+            0
+        }
+    }
+}
+
+/// The crate doesn't tell where the value of a call comes from.
+mod source {
+    pub(crate) fn next_source(_machine: &trac_t64::Machine<'static>, _which: u32) -> usize {
+        std::process::abort()
     }
 }
 

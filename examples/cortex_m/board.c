@@ -1,9 +1,9 @@
-/* The board mps2-an385: its start, its serial line, and its end, which QEMU is told by semihosting. */
+/* The board mps2-an385: its start, its serial line, a page that a reset leaves as it is, and its end, which QEMU is
+ * told by semihosting. */
 #include "board.h"
 
-#include <stdint.h>
-
 extern uint32_t data_in_flash, data_begin, data_end, bss_begin, bss_end, stack_top;
+extern volatile uint32_t page[BOARD_PAGE_WORDS];
 int main(void);
 
 /* The serial line of the board, and the bits of its state. */
@@ -32,6 +32,30 @@ size_t board_stack_used(void) {
     while (word < &stack_top && *word == UNUSED)
         word++;
     return (size_t)(&stack_top - word) * sizeof *word;
+}
+
+const uint32_t *board_page(void) { return (const uint32_t *)page; }
+
+/* The emulator has no controller of flash, so these two write to memory. A real one is unlocked first and locked again
+ * behind it. To erase, it gets the place of the page and the order to erase, and you wait while it is busy, some 20
+ * milliseconds. To write, it gets the order to write; then each word, or half of one, is stored, and you wait while it
+ * is busy and compare what stands there. If a function in flash waits, interrupts that run from flash wait with it. */
+void board_erase_page(void) {
+    for (size_t i = 0; i < BOARD_PAGE_WORDS; i++)
+        page[i] = UINT32_MAX;
+}
+
+void board_write_page(const uint32_t *words, size_t count) {
+    for (size_t i = 0; i < count; i++)
+        page[i] &= words[i];
+}
+
+/* By the register AIRCR, which every Cortex-M3 has: its key, and the bit that asks for a reset of the system. */
+void board_reset(void) {
+    __asm__ volatile("dsb" ::: "memory");
+    *(volatile uint32_t *)0xE000ED0C = 0x05FA0004;
+    for (;;) {
+    }
 }
 
 /* Ends the emulator with a status. */

@@ -102,6 +102,13 @@ trac_report trac_trace_step(trac_machine *machine, trac_trace *trace, const void
 #endif
 
 #ifndef TRAC_CHECK_ALONE
+/* Makes a machine's stamp anew where a call wasn't refused, of which this is what it told. */
+static uint32_t stamped(trac_machine *machine, uint64_t number, uint32_t told) {
+    if (told != TRAC_REFUSED)
+        stamp(machine, number);
+    return told;
+}
+
 /* The words of a place in the list of forms: the machine's address; its stamp then; and the number of the form, from 1,
  * 0 before the first. */
 enum { OF_MACHINE, OF_STAMP, NUMBER };
@@ -143,7 +150,7 @@ const char *trac_kind(void) { return TRAC_KIND; }
 const char *trac_fate_name(uint32_t fate) {
     static const char names[][16] = {"going",        "halted",        "input ended", "workspace",    "steps",
                                         "input failed", "output failed", "wants input", "wants output", "refused",
-                                        "no memory"};
+                                        "no memory",    "wants answer"};
     return fate < sizeof names / sizeof *names ? names[fate] : "?";
 }
 
@@ -235,6 +242,189 @@ uint32_t trac_again(trac_machine *machine, uint64_t steps) {
     return 0;
 }
 
+uint32_t trac_stop_at_unknown(trac_machine *machine, int on) {
+    if (!is_opened(machine))
+        return TRAC_REFUSED;
+    stamp(machine, 0);
+    trac_engine_stop_at_unknown(machine, on != 0);
+    return 0;
+}
+
+trac_report trac_answer(trac_machine *machine, const void *value, size_t length, uint32_t how) {
+    if (!is_opened(machine) || !are_bytes(value, length))
+        return refused;
+    const trac_report told = trac_engine_answer(machine, read_from(value), length, how);
+    (void)stamped(machine, length, told.fate);
+    return told;
+}
+
+size_t trac_printed(const trac_machine *machine, size_t from, void *to, size_t room) {
+    if (!is_opened(machine) || !are_bytes(to, room))
+        return 0;
+    return trac_engine_printed(seen(machine), from, written_to(to), room);
+}
+
+trac_report trac_skip_print(trac_machine *machine) {
+    if (!is_opened(machine))
+        return refused;
+    const trac_report told = trac_engine_skip_print(machine);
+    (void)stamped(machine, 0, told.fate);
+    return told;
+}
+
+/* A run with the caller's functions, and how much of its buffer is in use: what was read and is not consumed. */
+typedef struct {
+    trac_machine machine;
+    trac_reader read;
+    trac_writer write;
+    void *context;
+    uint8_t *buffer;
+    size_t room, begin, end, consumed, written;
+    int has_ended;
+} called_run;
+
+/* Moves what is not consumed to the front of the buffer. */
+static void called_to_front(called_run *run) {
+    if (!run->begin)
+        return;
+    memmove(run->buffer, run->buffer + run->begin, run->end - run->begin);
+    run->end -= run->begin;
+    run->begin = 0;
+}
+
+/* The report of a step that a device failed: of the same step where the device did not, but for the count of it. */
+static trac_report called_failure(uint32_t fate, trac_report done) {
+    done.fate = fate;
+    done.steps--;
+    return done;
+}
+
+/* A turn over what was read and is not consumed. */
+static trac_report called_turn(called_run *run, int has_ended, uint64_t most) {
+    const size_t held = run->end - run->begin;
+    const trac_report report =
+        trac_turn(&run->machine, run->buffer + run->begin, held, has_ended, NULL, 0, most);
+    run->begin += report.consumed;
+    run->consumed += report.consumed;
+    return report;
+}
+
+/* Has the caller read on, behind what is not consumed. */
+static trac_report called_read(called_run *run, trac_report report) {
+    size_t count, free;
+    called_to_front(run);
+    free = run->room - run->end;
+    report.fate = free ? TRAC_GOING : TRAC_NO_MEMORY;
+    if (!free)
+        return report;
+    count = run->read(run->context, run->buffer + run->end, free);
+    if (count > free)
+        return called_failure(TRAC_INPUT_FAILED, called_turn(run, 1, 1));
+    run->end += count;
+    run->has_ended = count == 0;
+    return report;
+}
+
+/* Has the caller write a piece of what is printed, and gives how many bytes it took before it failed. */
+static size_t called_write(const called_run *run, const uint8_t *piece, size_t length) {
+    size_t done = 0, count = 1;
+    while (count && done < length) {
+        count = run->write(run->context, piece + done, length - done);
+        count = count > length - done ? 0 : count;
+        done += count;
+    }
+    return done;
+}
+
+/* Has the caller write the bytes that the next step prints, and makes that step. They are laid in what is free of the
+ * buffer, or where that is less on the stack. */
+static trac_report called_print(called_run *run, size_t wanted) {
+    uint8_t small[256];
+    const size_t free = run->room - run->end, room = free > sizeof small ? free : sizeof small;
+    uint8_t *const piece = free > sizeof small ? run->buffer + run->end : small;
+    size_t done = 0, length, taken;
+    do {
+        length = trac_printed(&run->machine, done, piece, room);
+        length = length < room ? length : room;
+        taken = called_write(run, piece, length);
+        done += taken;
+    } while (taken == length && done < wanted);
+    run->written += done;
+    const trac_report report = trac_skip_print(&run->machine);
+    return taken < length ? called_failure(TRAC_OUTPUT_FAILED, report) : report;
+}
+
+/* Makes steps up to one that reads more than there is, prints, or ends the run. */
+static trac_report called_steps(called_run *run) {
+    const trac_report report = called_turn(run, run->has_ended, UINT64_MAX);
+    if (report.fate == TRAC_WANTS_INPUT)
+        return called_read(run, report);
+    return report.fate == TRAC_WANTS_OUTPUT ? called_print(run, report.wanted) : report;
+}
+
+trac_report trac_run_with(trac_cell *block, size_t cells, uint64_t steps, void *buffer, size_t room, trac_reader read,
+                          trac_writer write, void *context) {
+    called_run run = {TRAC_NO_MACHINE, read, write, context, written_to(buffer), room, 0, 0, 0, 0, 0};
+    trac_report report;
+    if (!read || !write || !are_bytes(buffer, room) || trac_open(&run.machine, block, cells, steps))
+        return refused;
+    do {
+        report = called_steps(&run);
+    } while (report.fate == TRAC_GOING);
+    called_to_front(&run);
+    report.written = run.written;
+    report.consumed = run.consumed;
+    return report;
+}
+
+uint32_t trac_define(trac_machine *machine, const void *name, size_t name_length, const uint32_t *codes, size_t count,
+                     size_t pointer) {
+    if (!is_opened(machine) || !are_bytes(name, name_length) || !are_codes(codes, count))
+        return TRAC_REFUSED;
+    return stamped(machine, count, trac_engine_define(machine, read_from(name), name_length, codes ? codes : &NOTHING,
+                                                      count, pointer));
+}
+
+uint32_t trac_define_text(trac_machine *machine, const void *name, size_t name_length, const void *body,
+                          size_t body_length) {
+    if (!is_opened(machine) || !are_bytes(name, name_length) || !are_bytes(body, body_length))
+        return TRAC_REFUSED;
+    return stamped(machine, body_length, trac_engine_define_text(machine, read_from(name), name_length,
+                                                                 read_from(body), body_length));
+}
+
+uint32_t trac_delete(trac_machine *machine, const void *name, size_t name_length) {
+    if (!is_opened(machine) || !are_bytes(name, name_length))
+        return TRAC_REFUSED;
+    return stamped(machine, name_length, trac_engine_delete(machine, read_from(name), name_length));
+}
+
+uint32_t trac_delete_all(trac_machine *machine) {
+    if (!is_opened(machine))
+        return TRAC_REFUSED;
+    stamp(machine, 0);
+    trac_engine_delete_all(machine);
+    return 0;
+}
+
+uint32_t trac_set_meta(trac_machine *machine, uint32_t byte) {
+    if (!is_opened(machine))
+        return TRAC_REFUSED;
+    return stamped(machine, byte, trac_engine_set_meta(machine, byte));
+}
+
+size_t trac_save(const trac_machine *machine, void *to, size_t room) {
+    if (!is_opened(machine) || !are_bytes(to, room))
+        return 0;
+    return trac_engine_save(seen(machine), written_to(to), room);
+}
+
+uint32_t trac_load(trac_machine *machine, const void *from, size_t length) {
+    if (!is_opened(machine) || !are_bytes(from, length))
+        return TRAC_REFUSED;
+    return stamped(machine, length, trac_engine_load(machine, read_from(from), length));
+}
+
 uint32_t trac_take_peak(trac_machine *machine) {
     return is_opened(machine) ? trac_engine_take_peak(machine) : 0;
 }
@@ -258,6 +448,15 @@ int trac_next_form(const trac_machine *machine, trac_form *form) {
         return 0;
     trac_engine_turn_to_form(seen(machine), (size_t)form->words[NUMBER]++);
     return form->words[NUMBER] <= count;
+}
+
+int trac_find_form(const trac_machine *machine, const void *name, size_t name_length, trac_form *form) {
+    if (!is_opened(machine) || !is_place(form) || !are_bytes(name, name_length))
+        return 0;
+    form->words[OF_MACHINE] = number_of(machine);
+    form->words[OF_STAMP] = machine->words[STAMP];
+    form->words[NUMBER] = trac_engine_find_form(seen(machine), read_from(name), name_length);
+    return form->words[NUMBER] != 0;
 }
 
 /* Which form it is, from 0. Behind the last one there is none. */

@@ -1,12 +1,13 @@
-/* What is seen of the calls of a run: which of them do nothing, since they name no function or no form. */
+/* What is seen of the calls of a run: which calls do nothing, because they name no function or no form. */
 #include "terminal.h"
 
-/* The steps that are made at once, between two looks at ^C, and the lines that are said of a string. */
+/* The steps that are made at once, between two tests for ^C, and the maximum number of lines that are printed about a
+ * string. */
 enum { AT_ONCE = 4096, MOST_LINES = 8 };
 
 static uint8_t small(uint8_t letter) { return letter >= 'A' && letter <= 'Z' ? (uint8_t)(letter + 32) : letter; }
 
-/* Asks the engine of a function. */
+/* Gets what the engine knows about a function. */
 static void learn(known_function *of, size_t which) {
     const size_t length = trac_function_text(which, TRAC_TEXT_NAME, of->name, MOST_NAME);
     of->name[length < MOST_NAME ? length : MOST_NAME] = 0;
@@ -14,7 +15,7 @@ static void learn(known_function *of, size_t which) {
 }
 
 const known_function *function_at(size_t which) {
-    /* What the engine was asked, once: a run has many calls. */
+    /* The engine's answers, which are fetched once, because a run has many calls. */
     static known_function *known;
     static size_t count;
     const size_t all = known ? count : trac_function_count();
@@ -24,7 +25,7 @@ const known_function *function_at(size_t which) {
     return which < count ? &known[which] : NULL;
 }
 
-/* Whether a name is this one, letters of both cases being the same. */
+/* Whether a name is this one, in letters of either case. */
 static int is_name(const uint8_t *name, size_t length, const char *of) {
     size_t i = 0;
     while (i < length && of[i] && small(name[i]) == small((uint8_t)of[i]))
@@ -41,7 +42,7 @@ const known_function *function_named(const uint8_t *name, size_t length) {
 
 void begin_watch(watch *of) { of->lines.length = of->count = 0; }
 
-/* Whether the last line stands in front of it already. */
+/* Whether the last line already occurs before it. */
 static int is_said(const text *lines, size_t last) {
     const char *const added = (const char *)lines->bytes + last;
     const char *at = (const char *)lines->bytes;
@@ -50,7 +51,7 @@ static int is_said(const text *lines, size_t last) {
     return at < added;
 }
 
-/* Notes a line once, and that there are more where there are many. */
+/* Notes a line once, and that there are more lines if there are many. */
 static void note(watch *of, const char *what, const text *name) {
     const size_t before = of->lines.length;
     if (of->count > MOST_LINES)
@@ -65,7 +66,7 @@ static void note(watch *of, const char *what, const text *name) {
         of->count++;
 }
 
-/* Takes an argument of the call that the next step performs. Gives 0 where there is no memory for it. */
+/* Copies an argument of the call that the next step performs. Gives 0 if there is no memory for it. */
 static int take_argument(text *to, const trac_machine *machine, size_t which) {
     const size_t length = trac_argument(machine, which, NULL, 0);
     to->length = 0;

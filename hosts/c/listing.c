@@ -1,13 +1,13 @@
-/* Old listings: how they differ from scripts of this processor, and what of that can be made right. */
+/* Old listings: how they differ from scripts for this processor, and which of these differences can be converted. */
 #include "terminal.h"
 
 #include <strings.h>
 
-/* The characters of a typewriter by which the one before was taken back. */
+/* The characters by which a typewriter took back the character before. */
 enum { RUBOUT = 127, BACKSPACE = 8 };
 
-/* Functions of the language that this processor leaves out: their names, what to do without, and how often each is
- * called in a listing. */
+/* Functions of the language that this processor omits: their names, what to do instead, and how often each is called in
+ * a listing. */
 enum { LEFT_OUT = 6 };
 static const struct {
     const char *name, *instead;
@@ -20,7 +20,7 @@ static const struct {
     {"mo", "there are no modes"},
 };
 
-/* What was made right, and what was found that is left as it is. */
+/* What was converted, and what was found and isn't converted. */
 typedef struct {
     size_t line_ends, rubouts, apostrophes, bare_names;
     size_t calls[LEFT_OUT], first_line[LEFT_OUT];
@@ -28,14 +28,14 @@ typedef struct {
     int has_other_quotes;
 } findings;
 
-/* The length of an apostrophe as typesetters have it, U+2018, U+2019 or U+00B4; 0 where there is none. */
+/* The length of a typographic apostrophe, U+2018, U+2019 or U+00B4; 0 if there is none. */
 static size_t quote_length(const uint8_t *at, size_t left) {
     if (left > 2 && at[0] == 0xE2 && at[1] == 0x80 && (at[2] == 0x98 || at[2] == 0x99))
         return 3;
     return left > 1 && at[0] == 0xC2 && at[1] == 0xB4 ? 2 : 0;
 }
 
-/* Takes the last character of a line back, with all its bytes; of what is no character, one byte. */
+/* Removes the last character of a line, with all its bytes; if the bytes are no character, it removes one byte. */
 static void take_back(text *of) {
     uint8_t last[4] = {0, 0, 0, 0};
     size_t length = of->length < 4 ? of->length : 4;
@@ -48,7 +48,8 @@ static void take_back(text *of) {
         of->length -= length;
 }
 
-/* Adds the characters of a listing with one kind of line ends and of apostrophes, and without what was taken back. */
+/* Adds the characters of a listing, with one kind of line ends and of apostrophes, and without the characters that were
+ * taken back. */
 static void add_plain(text *to, const text *from, findings *found) {
     const int has_apostrophe = from->length && memchr(from->bytes, '\'', from->length) != NULL;
     for (size_t i = 0, length; i < from->length; i += length) {
@@ -70,7 +71,7 @@ static void add_plain(text *to, const text *from, findings *found) {
     }
 }
 
-/* The length of the name behind `#(`, up to a comma or a right parenthesis; 0 where something else comes first. */
+/* The length of the name after `#(`, up to a comma or a right parenthesis; 0 if something else comes first. */
 static size_t name_length(const uint8_t *at, size_t left) {
     size_t length = 0;
     while (length < left && !strchr("#(),'\n", at[length]))
@@ -90,27 +91,27 @@ static int compare_names(const void *one, const void *other) {
     return order ? order : (a->length > b->length) - (a->length < b->length);
 }
 
-/* Whether a name stands in a sorted list of names. */
+/* Whether a name occurs in a sorted list of names. */
 static int has_name(const text *names, const uint8_t *bytes, size_t length) {
     const name_part name = {bytes, length};
     return names->length && bsearch(&name, names->bytes, names->length / sizeof name, sizeof name, compare_names);
 }
 
-/* What is called at a place of a script: the function, where it is one, and its name. */
+/* What is called at a place in a script: the name, and the function if it names one. */
 typedef struct {
     const uint8_t *name;
     size_t length;
     const known_function *function;
 } called;
 
-/* The call whose `#(` stands in front of a place. */
+/* The call whose `#(` is right before a place. */
 static called call_at(const text *script, size_t at) {
     called of = {script->bytes + at, name_length(script->bytes + at, script->length - at), NULL};
     of.function = of.length ? function_named(of.name, of.length) : NULL;
     return of;
 }
 
-/* Goes behind the next `#(`. Gives 0 where there is none. */
+/* Moves past the next `#(`. Gives 0 if there is none. */
 static size_t next_call(const text *script, size_t from) {
     while (from + 1 < script->length && (script->bytes[from] != '#' || script->bytes[from + 1] != '('))
         from++;
@@ -123,8 +124,8 @@ static void add_name(text *names, const uint8_t *bytes, size_t length) {
         add_bytes(names, &name, sizeof name);
 }
 
-/* The names of the forms that a script makes where it stands, sorted: a function makes one that changes a form which
- * needn't be there. */
+/* The names of the forms that a script makes, sorted. A function makes a form if it changes a form that needn't
+ * exist. */
 static void find_names(text *names, const text *script) {
     for (size_t at = next_call(script, 0); at; at = next_call(script, at)) {
         const called of = call_at(script, at);
@@ -137,7 +138,7 @@ static void find_names(text *names, const text *script) {
         qsort(names->bytes, names->length / sizeof(name_part), sizeof(name_part), compare_names);
 }
 
-/* Notes how the name of a call is written, and whether it is one that is left out. */
+/* Notes how the name of a call is written, and whether the function is one that this processor omits. */
 static void note_call(findings *found, const called *of, size_t line, const text *names) {
     for (size_t i = 0; i < of->length; i++) {
         found->capitals += (size_t)(of->function && of->name[i] >= 'A' && of->name[i] <= 'Z');
@@ -150,7 +151,7 @@ static void note_call(findings *found, const called *of, size_t line, const text
         }
 }
 
-/* Adds a script, and makes calls of forms of the calls of bare names of forms that it makes. */
+/* Adds a script, in which calls of bare names become calls of the forms with these names, if the script makes them. */
 static void add_called(text *to, const text *script, const text *names, findings *found) {
     size_t from = 0, line = 1;
     for (size_t at = next_call(script, 0); at; at = next_call(script, at)) {
@@ -168,7 +169,7 @@ static void add_called(text *to, const text *script, const text *names, findings
     add_bytes(to, script->bytes + from, script->length - from);
 }
 
-/* Counts the lines, and those that begin with a number. */
+/* Counts the lines, and the lines that begin with a number. */
 static void count_lines(findings *found, const text *script) {
     for (size_t i = 0; i < script->length; i++)
         if (!i || script->bytes[i - 1] == '\n') {
@@ -177,7 +178,7 @@ static void count_lines(findings *found, const text *script) {
         }
 }
 
-/* Adds a listing as a script of this processor, and notes what was changed and what wasn't. */
+/* Adds a listing as a script for this processor, and notes what was changed and what wasn't. */
 static void convert(text *to, const text *from, findings *found) {
     text plain = {NULL, 0, 0, 0}, names = {NULL, 0, 0, 0};
     to->is_short |= !function_at(0);
@@ -190,7 +191,7 @@ static void convert(text *to, const text *from, findings *found) {
     free(names.bytes);
 }
 
-/* Adds a number of things, behind a comma where others stand in front. */
+/* Adds a number of things, after a comma if others come before. */
 static void add_count(text *to, size_t count, const char *one, const char *many) {
     char number[32];
     if (!count)
@@ -200,7 +201,7 @@ static void add_count(text *to, size_t count, const char *one, const char *many)
     add_text(to, count == 1 ? one : many);
 }
 
-/* Adds what was made right; nothing where nothing was. */
+/* Adds what was converted; nothing if nothing was. */
 static void add_changes(text *to, const findings *found) {
     add_count(to, found->line_ends, "line end", "line ends");
     add_count(to, found->rubouts, "rubout", "rubouts");
@@ -215,7 +216,7 @@ static size_t calls_left_out(const findings *found) {
     return count;
 }
 
-/* Says what stays as it is. */
+/* Reports what isn't converted. */
 static void say_left(const char *name, const findings *found) {
     for (size_t i = 0; i < LEFT_OUT; i++)
         if (found->calls[i])
@@ -227,7 +228,7 @@ static void say_left(const char *name, const findings *found) {
         (void)say_line(DONE, "trac_terminal: %s: the numbers in front of the lines stay\n", name);
 }
 
-/* Says what was made right, and what stays. */
+/* Reports what was converted, and what wasn't. */
 static void say_changes(const char *name, const findings *found) {
     text changes = {NULL, 0, 0, 0}, shown = {NULL, 0, 0, 0};
     const char *const file = shown_in(&shown, name, strlen(name));

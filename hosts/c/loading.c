@@ -1,16 +1,17 @@
-/* Sessions that were saved: what marks them, whether they are whole, and how they are loaded, all or nothing.
+/* Sessions that were saved, as scripts and as images: what marks them, whether they are whole, and how they are loaded,
+ * all or nothing. Of an image the engine tells whether it is whole.
  *
- * The first line of a saved session and its last one are calls of no function. The last tells how many forms there are
+ * The first line of a saved script and its last one are calls of no function. The last tells how many forms there are
  * and a checksum of all other bytes of the file, as 16 digits: FNV-1a with 64 bits, which any single byte changes. */
 #include "terminal.h"
 
-/* How the first line begins, and the last one. */
+/* The beginnings of the first and of the last line. */
 static const char FIRST[] = "#(,(Session saved by trac_terminal ";
 static const char LAST[] = "#(,(End of the session saved by trac_terminal, ";
 enum { FIRST_LENGTH = sizeof FIRST - 1, LAST_LENGTH = sizeof LAST - 1 };
 
-/* The digits of the checksum; how many bytes follow them: `))`, a meta character, a line feed. The steps that are made
- * at once, between two looks at ^C. */
+/* The number of digits of the checksum, and of bytes after them: `))`, a meta character, a line feed. The steps that
+ * are made at once, between two tests for ^C. */
 enum { DIGITS = 16, BEHIND = 4, AT_ONCE = 4096 };
 
 /* ---- The first line and the last one. */
@@ -21,7 +22,7 @@ static uint64_t add_to_sum(uint64_t sum, const uint8_t *bytes, size_t length) {
     return sum;
 }
 
-/* Writes the checksum of a saved session: of all its bytes but for those digits themselves. */
+/* Writes the checksum of a saved session, of all its bytes except the digits of the checksum. */
 static void write_sum(char digits[DIGITS + 1], const uint8_t *bytes, size_t length) {
     uint64_t sum = add_to_sum(UINT64_C(0xcbf29ce484222325), bytes, length - BEHIND - DIGITS);
     sum = add_to_sum(sum, bytes + length - BEHIND, BEHIND);
@@ -62,7 +63,7 @@ int is_saved_session(const uint8_t *bytes, size_t length) {
     return at < end;
 }
 
-/* Whether a saved session is as it was saved. */
+/* Whether a saved session is unchanged since it was saved. */
 static int is_whole(const uint8_t *bytes, size_t length) {
     char digits[DIGITS + 1];
     if (length < FIRST_LENGTH + LAST_LENGTH + DIGITS + BEHIND || !begins_with(bytes, length, FIRST, FIRST_LENGTH))
@@ -71,7 +72,7 @@ static int is_whole(const uint8_t *bytes, size_t length) {
     return memcmp(bytes + length - BEHIND - DIGITS, digits, DIGITS) == 0;
 }
 
-/* Takes away the first line of a saved session and the last one, with the line feed in front of that. */
+/* Removes the first and the last line of a saved session, with the line feed before the last. */
 static void take_lines_away(const uint8_t **bytes, size_t *length) {
     const uint8_t *const feed = (const uint8_t *)memchr(*bytes, '\n', *length);
     const size_t first = feed ? (size_t)(feed + 1 - *bytes) : *length;
@@ -84,7 +85,8 @@ static void take_lines_away(const uint8_t **bytes, size_t *length) {
 
 /* ---- Loading. */
 
-/* Runs the string at the front of some bytes, with so many steps, and gives its fate. What is left of them is told. */
+/* Runs the string at the front of some bytes, with the given number of steps, and gives its fate. Says how many bytes
+ * are left. */
 static uint32_t run_front(trac_machine *on, uint64_t steps, const uint8_t *bytes, size_t *length, int can_stop) {
     trac_report report;
     const uint8_t *const end = bytes + *length;
@@ -114,12 +116,60 @@ void say_not_loaded(const char *name, loading became) {
         "the saved session needs more steps for a string",
         "there is no memory to load the saved session",
         "loading was stopped",
-        "a form has a name that loading it uses"};
+        "a form has a name that loading it uses",
+        "the image is cut or damaged",
+        "the image is of another version",
+        "the image needs more cells",
+        "there is no memory to load the image"};
     text shown = {NULL, 0, 0, 0};
     (void)say_line(DONE, "trac_terminal: %s: %s; nothing of it is defined\n", shown_in(&shown, name, strlen(name)),
                    why[became]);
     free(shown.bytes);
 }
+
+/* ---- Images. */
+
+/* How an image begins, behind which stands its version. */
+static const char IMAGE[] = "TRAC";
+enum { MARK_LENGTH = sizeof IMAGE - 1, VERSION = 1, BEFORE_TEXT = ' ' };
+
+int is_image_name(const char *name) {
+    static const char ending[] = ".image";
+    const size_t length = strlen(name), ending_length = sizeof ending - 1;
+    return length >= ending_length && strcmp(name + length - ending_length, ending) == 0;
+}
+
+int is_image(const char *name, const uint8_t *bytes, size_t length) {
+    if (is_image_name(name))
+        return 1;
+    if (length <= MARK_LENGTH)
+        return length && memcmp(bytes, IMAGE, length) == 0;
+    return begins_with(bytes, length, IMAGE, MARK_LENGTH) && bytes[MARK_LENGTH] < BEFORE_TEXT &&
+           !strchr("\t\n\r", bytes[MARK_LENGTH]);
+}
+
+/* Why an image is refused. What is whole is taken into as many cells as it has bytes, since no cell of a form takes
+ * less than one byte. */
+static loading why_refused(const uint8_t *bytes, size_t length) {
+    const size_t cells = length < TRAC_MOST_CELLS ? length : TRAC_MOST_CELLS;
+    trac_machine trial = TRAC_NO_MACHINE;
+    if (begins_with(bytes, length, IMAGE, MARK_LENGTH) && length > MARK_LENGTH && bytes[MARK_LENGTH] != VERSION)
+        return OTHER_VERSION;
+    trac_cell *const block = (trac_cell *)calloc(cells + 1, sizeof *block);
+    if (!block || trac_open_zeroed(&trial, block, cells, 0)) {
+        free(block);
+        return IMAGE_LACKS_MEMORY;
+    }
+    const uint32_t refused = trac_load(&trial, bytes, length);
+    free(block);
+    return refused ? IMAGE_NOT_WHOLE : IMAGE_LACKS_CELLS;
+}
+
+loading load_image(trac_machine *to, const uint8_t *bytes, size_t length) {
+    return trac_load(to, bytes, length) ? why_refused(bytes, length) : LOADED;
+}
+
+/* ---- Scripts. */
 
 /* Lists the names of forms that loading may use and delete, each ended by a null byte: such as are made of those
  * characters alone. */
@@ -136,7 +186,7 @@ static void list_endangered(const trac_machine *machine, text *names) {
     free(name.bytes);
 }
 
-/* Whether one of these names is no form's any more. */
+/* Whether one of these names is no longer the name of a form. */
 static int is_one_lost(const trac_machine *machine, text *names) {
     text found = {NULL, 0, 0, 0};
     size_t at = 0, length = 0;
@@ -148,7 +198,7 @@ static int is_one_lost(const trac_machine *machine, text *names) {
     return at < names->length;
 }
 
-/* What a run of the strings of a saved session says of its loading. */
+/* The result of loading, from the result of a run of the strings of a saved session. */
 static loading loading_of(uint32_t fate) {
     if (is_interrupted)
         return LOADING_STOPPED;

@@ -41,6 +41,20 @@ uint32_t trac_engine_rule(void *machine);
 size_t trac_engine_part(void *machine, uint32_t which);
 uint32_t trac_engine_meta(void *machine);
 uint32_t trac_engine_awaits(void *machine);
+void trac_engine_stop_at_unknown(void *machine, uint32_t stops);
+trac_report trac_engine_answer(void *machine, const uint8_t *value, size_t length, uint32_t how);
+size_t trac_engine_printed(void *machine, size_t from, uint8_t *to, size_t room);
+trac_report trac_engine_skip_print(void *machine);
+uint32_t trac_engine_define(void *machine, const uint8_t *name, size_t name_length, const uint32_t *codes, size_t count,
+                            size_t pointer);
+uint32_t trac_engine_define_text(void *machine, const uint8_t *name, size_t name_length, const uint8_t *body,
+                                 size_t body_length);
+uint32_t trac_engine_delete(void *machine, const uint8_t *name, size_t name_length);
+void trac_engine_delete_all(void *machine);
+uint32_t trac_engine_set_meta(void *machine, uint32_t byte);
+size_t trac_engine_find_form(void *machine, const uint8_t *name, size_t name_length);
+size_t trac_engine_save(void *machine, uint8_t *to, size_t room);
+uint32_t trac_engine_load(void *machine, const uint8_t *image, size_t length);
 size_t trac_engine_function_count(void);
 uint32_t trac_engine_function_fact(size_t which, uint32_t fact);
 size_t trac_engine_function_text(size_t which, uint32_t text, uint8_t *to, size_t room);

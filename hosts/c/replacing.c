@@ -1,10 +1,10 @@
-/* A file that takes the place of an older one at once: what was there stays until the new one is on the disk. */
+/* Replaces a file at once: the old file stays until the new one is on the disk. */
 #include "terminal.h"
 
 #include <fcntl.h>
 #include <sys/stat.h>
 
-/* The longest path that a link may hold, and how many links are followed. */
+/* The longest path in a link, and the maximum number of links that are followed. */
 enum { LONGEST_LINK = 4096, MOST_LINKS = 40 };
 
 static const char *path_in(const text *of) { return (const char *)of->bytes; }
@@ -17,7 +17,7 @@ static size_t folder_length(const text *path) {
     return length;
 }
 
-/* Puts a path, seen from a folder unless it begins with a solidus, in the place of another. */
+/* Replaces a path by another path, which is relative to the first one's folder unless it begins with a slash. */
 static int take_path(text *to, size_t folder, const char *path, size_t length) {
     to->length = length && path[0] == '/' ? 0 : folder;
     add_bytes(to, path, length);
@@ -26,7 +26,8 @@ static int take_path(text *to, size_t folder, const char *path, size_t length) {
     return !to->is_short;
 }
 
-/* Follows links from a name to the file that it means, which may be missing. Gives 0, and why in errno. */
+/* Follows links from a name to the file that it leads to, which may be missing. If that fails, gives 0, with the reason
+ * in errno. */
 static int follow(text *path, const char *name) {
     char target[LONGEST_LINK];
     ssize_t length = 0;
@@ -40,8 +41,8 @@ static int follow(text *path, const char *name) {
     return is_taken && left && (errno == EINVAL || errno == ENOENT);
 }
 
-/* Gives a new file the owner and the permissions of the old one, or those of any new file. Where the group can't be the
- * same, it gets no permissions. */
+/* Gives a new file the owner and the permissions of the old one, or those of any new file. If the group can't be the
+ * same, the group gets no permissions. */
 static void take_permissions(int file, const struct stat *like) {
     const mode_t mask = umask(0);
     (void)umask(mask);
@@ -53,7 +54,7 @@ static void take_permissions(int file, const struct stat *like) {
         (void)fchmod(file, like->st_mode & 0707);
 }
 
-/* Writes a new file up to the disk and closes it. */
+/* Writes a new file to the disk and closes it. */
 static int write_through(int file, const text *content) {
     int is_written = write_all(file, content->bytes, content->length);
     while (is_written && fsync(file) != 0 && errno != EINVAL)
@@ -64,7 +65,7 @@ static int write_through(int file, const text *content) {
     return is_written && is_closed;
 }
 
-/* Puts a content into a new file beside that of this path, which then takes its place. */
+/* Puts a content into a new file beside the file of this path, and then replaces that file by it. */
 static int put_beside(const text *path, const text *content, const struct stat *like) {
     text beside = {NULL, 0, 0, 0};
     add_bytes(&beside, path->bytes, folder_length(path));
@@ -85,7 +86,7 @@ static int put_beside(const text *path, const text *content, const struct stat *
     return is_put;
 }
 
-/* Writes to what has no content to lose: a device, a pipe; also to a file that the output goes to, behind its end. */
+/* Writes to a file that has no content to lose: a device, a pipe. Also appends to the file that the output goes to. */
 static int write_behind(const char *name, const text *content) {
     const int file = open(name, O_WRONLY | O_APPEND | O_CLOEXEC);
     if (file < 0)
@@ -100,7 +101,7 @@ static int is_same(const struct stat *a, const struct stat *b) {
     return a->st_dev == b->st_dev && a->st_ino == b->st_ino;
 }
 
-/* Whether a file may not be written to: nobody may, or not who runs the program. */
+/* Whether a file may not be written to, by nobody or by the user who runs the program. */
 static int is_protected(const char *name, const struct stat *there) {
     const int is_for_nobody = !(there->st_mode & 0222);
     if (is_for_nobody)

@@ -1,35 +1,36 @@
-/* The forms of a machine as a script that defines them anew, with their gaps and pointers.
+/* Writes the forms of a machine as a script that defines them again, with their gaps and pointers.
  *
- * A form becomes three strings at the most: its definition, in which a placeholder stands for each gap; a call of `ss`
- * that makes gaps of these; and calls of `cn` and `cs` that move the pointer. A text is protected by parentheses. What
- * can't stand in them is the value of a neutral call of a form that is there for that alone, and is deleted in the end:
- * a parenthesis without a match, and the meta character, if each that could be chosen stands in a form. All of it is
- * loaded into a machine of as many cells first, and what doesn't fit there is said. */
+ * A form becomes at most three strings: its definition, with a placeholder for each gap; a call of `ss` that makes gaps
+ * of these; and calls of `cn` and `cs` that move the pointer. Parentheses protect a text. A special character can't be
+ * in parentheses: it is a parenthesis without a match, or the meta character, if each possible meta character occurs in
+ * a form. It is given by a neutral call of a form that exists only for this, and is deleted in the end. Everything is
+ * first loaded into a machine with as many cells, and what doesn't fit there is reported. */
 #include "terminal.h"
 
-/* The characters that stand in forms of their own. */
+/* The characters that have forms of their own. */
 typedef enum { LEFT, RIGHT, META, SPECIAL_COUNT } special;
 
-/* What the names of these forms are made of; what may be the meta character of the script, and what may begin a
- * placeholder, the best first. The first is no character of the other two. */
+/* The characters in the names of these forms; the possible meta characters of the script; and the characters that may
+ * begin a placeholder, the best first. The characters of the names are in neither of the other two lists. */
 static const char NAMES[] = LOADING_NAMES, METAS[] = "';!|`@&$%?:", BEGINNINGS[] = "~^_*+=-/";
 
-/* How many those are. */
+/* How many characters these lists have. */
 enum { BEGINNING_COUNT = sizeof BEGINNINGS - 1 };
 
-/* A script in the making. `marks` has a byte for each of a text: 0, or 1 more than the special character that it is. */
+/* A script under construction. `marks` has a byte for each byte of a text: 0, or 1 more than the number of the special
+ * character that it is. */
 typedef struct {
     const trac_machine *from;
     const char *file;
     text script;
     text name, codes, body, marks;
     uint8_t meta;
-    size_t repeats[SPECIAL_COUNT]; /* how often the names of the special characters repeat theirs */
+    size_t repeats[SPECIAL_COUNT]; /* how often the names of the special characters repeat their character */
     int is_used[SPECIAL_COUNT];
-    trac_machine trial; /* in which it is tried, where `is_tried` */
+    trac_machine trial; /* in which the script is tried, if `is_tried` */
     int is_tried;
     size_t tried; /* the length of what was tried */
-    int is_told;  /* whether it was said that something didn't fit */
+    int is_told;  /* whether it was reported that something didn't fit */
     size_t cells;
     uint64_t steps;
 } saving;
@@ -60,7 +61,7 @@ static int are_plain(const uint8_t *bytes, size_t length, uint8_t meta) {
     return !length;
 }
 
-/* Marks the meta characters, and the right parentheses without a match between them. */
+/* Marks the meta characters, and the right parentheses without a match between meta characters. */
 static void mark_right(text *marks, const uint8_t *bytes, size_t length, uint8_t meta) {
     size_t open = 0;
     for (size_t i = 0; i < length; i++) {
@@ -88,7 +89,7 @@ static void add_special(saving *of, special which) {
     add_text(&of->script, ")");
 }
 
-/* How many characters from there on can stand in parentheses. */
+/* How many characters from a place on can be in parentheses. */
 static size_t unmarked_length(const text *marks, size_t at, size_t length) {
     size_t count = 0;
     while (at + count < length && !marks->bytes[at + count])
@@ -96,7 +97,7 @@ static size_t unmarked_length(const text *marks, size_t at, size_t length) {
     return count;
 }
 
-/* Adds what is evaluated to this text. */
+/* Adds text whose evaluation gives this text. */
 static void add_argument(saving *of, const uint8_t *bytes, size_t length) {
     of->marks.length = 0;
     if (are_plain(bytes, length, of->meta) || !reserve(&of->marks, length)) {
@@ -118,7 +119,7 @@ static void add_argument(saving *of, const uint8_t *bytes, size_t length) {
     }
 }
 
-/* Begins a call with the name of the form as its argument. */
+/* Begins a call that has the name of the form as its argument. */
 static void begin_call(saving *of, const char *beginning) {
     add_text(&of->script, beginning);
     add_argument(of, of->name.bytes, of->name.length);
@@ -126,8 +127,8 @@ static void begin_call(saving *of, const char *beginning) {
 
 /* ---- Strings. */
 
-/* Runs in the trial what was added since the last time, as loading runs it: with the line feeds between strings. Gives
- * whether it is run to its end. */
+/* Runs in the trial what was added since the last time, as loading does: with the line feeds between strings. Answers
+ * whether it ran to its end. */
 static int try_added(saving *of) {
     const size_t from = of->tried;
     of->tried = of->script.length;
@@ -135,7 +136,7 @@ static int try_added(saving *of) {
            run_saved(&of->trial, of->steps, of->script.bytes + from, of->tried - from, 0) == TRAC_GOING;
 }
 
-/* Ends a string of the script. Gives whether it is run to its end in the trial. */
+/* Ends a string of the script. Answers whether the string runs to its end in the trial. */
 static int end_string(saving *of) {
     add_bytes(&of->script, &of->meta, 1);
     const int is_run = try_added(of);
@@ -157,7 +158,7 @@ static uint32_t greatest_ordinal(const saving *of) {
     return most;
 }
 
-/* How long a row of each byte stands in the body at the most. */
+/* The greatest number of times that each byte occurs in a row in the body. */
 static void measure_rows(const saving *of, size_t longest[256]) {
     size_t row = 0;
     memset(longest, 0, 256 * sizeof *longest);
@@ -173,8 +174,8 @@ static int can_begin(const saving *of, uint8_t byte) {
     return !(byte >= '0' && byte <= '9') && byte != '(' && byte != ')' && byte != of->meta;
 }
 
-/* The byte that begins placeholders, and how often: once more than it stands in a row in the body. Since digits follow,
- * and as many each time, a placeholder is found where it was put and nowhere else. */
+/* The byte that begins placeholders, and how often it is repeated: once more than it occurs in a row in the body.
+ * Because digits follow, always the same number of them, a placeholder is found where it was put and nowhere else. */
 static uint8_t choose_beginning(const saving *of, size_t *count) {
     size_t longest[256];
     uint8_t best = (uint8_t)BEGINNINGS[0];
@@ -188,7 +189,7 @@ static uint8_t choose_beginning(const saving *of, size_t *count) {
     return best;
 }
 
-/* How a placeholder is written: so many bytes, and the ordinal with so many digits. */
+/* How a placeholder is written: with how many bytes, and with how many digits of the ordinal. */
 typedef struct {
     uint8_t beginning;
     size_t count;
@@ -223,7 +224,7 @@ static void write_body(saving *of, const placeholder *written) {
     }
 }
 
-/* Notes which ordinals there are, a byte for each. */
+/* Notes which ordinals occur, in a byte for each. */
 static int note_ordinals(const saving *of, text *to, uint32_t most) {
     if (!reserve(to, most))
         return 0;
@@ -234,7 +235,7 @@ static int note_ordinals(const saving *of, text *to, uint32_t most) {
     return 1;
 }
 
-/* Adds the call that makes gaps of the placeholders. An ordinal of which there is no gap has a null text. */
+/* Adds the call that makes gaps of the placeholders. An ordinal without a gap has a null text. */
 static void add_segmenting(saving *of, const placeholder *written, uint32_t most) {
     text ordinals = {NULL, 0, 0, 0};
     begin_call(of, "#(ss,");
@@ -253,7 +254,7 @@ static void add_segmenting(saving *of, const placeholder *written, uint32_t most
 
 /* ---- Forms. */
 
-/* How many gaps stand in front of an item without a character behind them; and how many characters in front of it. */
+/* How many gaps right before an item follow the last character before it; and how many characters precede the item. */
 static size_t count_gaps(const saving *of, size_t item, size_t *characters) {
     size_t gaps = 0;
     *characters = 0;
@@ -265,8 +266,8 @@ static size_t count_gaps(const saving *of, size_t item, size_t *characters) {
     return gaps;
 }
 
-/* Adds the calls that move the pointer there: past so many characters, and then past the gaps that follow them. Their
- * values stand in an argument of a call of no function. */
+/* Adds the calls that move the pointer to a place: past a number of characters, and then past the gaps that follow
+ * them. Their values are in an argument of a call of no function. */
 static void add_pointer(saving *of, size_t pointer) {
     size_t characters, gaps = count_gaps(of, pointer, &characters);
     add_text(&of->script, "#(,");
@@ -281,7 +282,7 @@ static void add_pointer(saving *of, size_t pointer) {
     add_text(&of->script, ")");
 }
 
-/* Adds the strings that define a form. Gives whether they do in the trial. */
+/* Adds the strings that define a form. Answers whether they do so in the trial. */
 static int define(saving *of, size_t pointer) {
     const uint32_t most = greatest_ordinal(of);
     const placeholder written = choose_placeholder(of, most);
@@ -302,7 +303,7 @@ static int define(saving *of, size_t pointer) {
     return is_defined;
 }
 
-/* Says, on standard error and in the script, that a form takes more cells to be defined than there are. */
+/* Reports, on standard error and in the script, that defining a form takes more cells than there are. */
 static void say_undefined(saving *of) {
     text file = {NULL, 0, 0, 0}, name = {NULL, 0, 0, 0};
     (void)say_line(DONE, "trac_terminal: %s: more cells or steps are needed to define the form %s\n",
@@ -315,7 +316,7 @@ static void say_undefined(saving *of) {
     of->is_told = 1;
 }
 
-/* Says that a part of the script that is no form's takes more cells to be loaded than there are. */
+/* Reports that loading a part of the script that belongs to no form takes more cells than there are. */
 static void say_not_loadable(saving *of) {
     text file = {NULL, 0, 0, 0};
     if (!of->is_told)
@@ -341,7 +342,7 @@ static void add_forms(saving *of) {
 
 /* ---- The special characters. */
 
-/* Notes the bytes of a form's name and body. */
+/* Notes the bytes in a form's name and body. */
 static void note_bytes(const saving *of, uint8_t is_there[TRAC_FIRST_GAP + 1]) {
     const size_t length = of->name.length;
     for (size_t i = 0; i < length + count_of(of); i++) {
@@ -350,7 +351,7 @@ static void note_bytes(const saving *of, uint8_t is_there[TRAC_FIRST_GAP + 1]) {
     }
 }
 
-/* The first of these characters that isn't there; the first of all where each is. */
+/* The first of these characters that doesn't occur; the first one if all occur. */
 static uint8_t first_free(const char *characters, const uint8_t is_there[TRAC_FIRST_GAP + 1]) {
     const char *at = characters;
     while (*at && is_there[(uint8_t)*at])
@@ -358,7 +359,7 @@ static uint8_t first_free(const char *characters, const uint8_t is_there[TRAC_FI
     return (uint8_t)(*at ? *at : *characters);
 }
 
-/* Chooses a meta character that stands in no form, or the apostrophe. */
+/* Chooses a meta character that occurs in no form, or else the apostrophe. */
 static void choose_meta(saving *of) {
     uint8_t is_there[TRAC_FIRST_GAP + 1] = {0};
     trac_form form = TRAC_NO_FORM;
@@ -407,8 +408,8 @@ static void begin_script(saving *of) {
             add_definition(of, which, written[which]);
 }
 
-/* Ends the script: the session's meta character, the forms of the special characters away, and, in the same string,
- * which the script's own meta character still ends, the last line. */
+/* Ends the script: sets the session's meta character, deletes the forms of the special characters, and, in the same
+ * string, which the script's own meta character still ends, adds the last line. */
 static void finish_script(saving *of) {
     const uint8_t meta = (uint8_t)trac_meta(of->from);
     const size_t from = of->script.length;
@@ -432,7 +433,7 @@ static void finish_script(saving *of) {
     add_last_line(&of->script, trac_form_count(of->from), of->meta);
 }
 
-/* Writes the script: once to see which special characters are used, and then with their forms. */
+/* Writes the script: once to find which special characters are used, and then again with their forms. */
 static void write_script(saving *of) {
     trac_cell *const block = (trac_cell *)calloc(of->cells, sizeof(trac_cell));
     choose_meta(of);
@@ -450,7 +451,7 @@ static void write_script(saving *of) {
     free(block);
 }
 
-/* ---- The file. */
+/* ---- The file, or an image in its place. */
 
 static void say_not_saved(const char *name, const char *why) {
     text shown = {NULL, 0, 0, 0};
@@ -458,8 +459,23 @@ static void say_not_saved(const char *name, const char *why) {
     free(shown.bytes);
 }
 
+/* Saves the image that the engine makes of the forms and the meta character. */
+static int save_image(const trac_machine *machine, const char *name) {
+    text image = {NULL, 0, 0, 0};
+    const size_t length = trac_save(machine, NULL, 0);
+    if (reserve(&image, length))
+        image.length = trac_save(machine, image.bytes, length);
+    const int is_saved = !image.is_short && replace_file(name, &image);
+    if (!is_saved)
+        say_not_saved(name, image.is_short ? strerror(ENOMEM) : strerror(errno));
+    free(image.bytes);
+    return is_saved;
+}
+
 int save_forms(const trac_machine *machine, size_t cells, uint64_t steps, const char *name) {
     static const text none = {NULL, 0, 0, 0};
+    if (is_image_name(name))
+        return save_image(machine, name);
     saving of = {machine, name, none, none, none, none, none, 0, {0, 0, 0}, {0, 0, 0}, {{0}}, 0, 0, 0,
                  cells, steps};
     write_script(&of);

@@ -1,10 +1,10 @@
 /* What is suspicious in files, by the rules of the engine. */
 #include "terminal.h"
 
-/* The bytes for the lists of a check, and for its lines, that are tried first. */
+/* The initial number of bytes for the lists of a check, and for its lines. */
 enum { LEAST_LISTS = 1 << 22, LEAST_LINES = 1 << 22 };
 
-/* Has room for so many bytes in a text that holds nothing. Gives 0 where there is no memory for it. */
+/* Makes room for a number of bytes in an empty text. Gives 0 if there is no memory for it. */
 static int has_room(text *of, size_t room) {
     of->length = 0;
     of->is_short = 0;
@@ -26,7 +26,7 @@ int check_script(checker *with, const text *script, trac_report *report) {
     return 0;
 }
 
-/* The status of a check, by how the run ended and by whether there are lines of it. */
+/* The status of a check, from how the run ended and from whether there are lines. */
 static int status_of(const trac_report *report, int has_lines) {
     if (report->fate == TRAC_WORKSPACE)
         return WORKSPACE;
@@ -35,7 +35,7 @@ static int status_of(const trac_report *report, int has_lines) {
     return has_lines ? SUSPICIOUS : DONE;
 }
 
-/* Adds a line of a check behind the name of the file. The lines in front of the file aren't counted. */
+/* Adds a line of a check after the name of the file. Lines that come before the file's own aren't counted. */
 static void add_line(checker *with, const char *name, const char *line, size_t length, size_t before) {
     char number[32] = "";
     size_t at = 0;
@@ -72,15 +72,15 @@ static int print_lines(checker *with, const char *name, const trac_report *repor
     return status_of(report, with->print.length > looks);
 }
 
-/* Makes layout of a first line that begins with `#!`, so that the others keep their numbers. */
+/* Replaces a first line that begins with `#!` by layout, so that the other lines keep their numbers. */
 static void blank_head(text *of) {
     const size_t head = head_length(of);
     if (head)
         memset(of->bytes, '\r', head - (of->bytes[head - 1] == '\n'));
 }
 
-/* Makes of a file what is checked: what is to stand in front does so. Notes where it looks like an old listing. Gives 0
- * where there is no memory. */
+/* Makes the script that is checked, from a file and the text that comes before it. Notes whether the file looks like an
+ * old listing. Gives 0 if there is no memory. */
 static int prepare(checker *with, const char *name, text *script) {
     text whole = {NULL, 0, 0, 0};
     with->print.length = 0;

@@ -1,17 +1,19 @@
-/* The program trac_terminal over the engine in C: files are run, and then the strings that are typed, each when its
- * meta character comes, over one machine. Each string is a run of its own, by turns of few steps, so that ^C can stop
- * it. Written by hand, and tested. */
+/* The program trac_terminal over the engine in C: it runs files, and then the strings that are typed, each when its
+ * meta character comes, on one machine. Each string is a separate run, in turns of few steps, so that ^C can stop it.
+ * Written by hand, and tested. */
 #include "terminal.h"
 
 #include <fcntl.h>
 #include <locale.h>
 #include <sys/wait.h>
 
-/* The bytes of a read; the room beside a print, to measure it once; the longest end of a line that is kept in mind. */
+/* The bytes of a read; the room in addition to a print, so that the print is measured only once; the longest end of a
+ * line that is remembered. */
 enum { CHUNK = 8192, MORE = 16, LONGEST_END = 4000 };
 
-/* Fates beside those of the engine: ^C stopped the run; a saved session can't be loaded; a command had the machine run
- * something else, so that the run of the string begins anew. There is no memory: TRAC_REFUSED. */
+/* Fates in addition to those of the engine: ^C stopped the run; a saved session can't be loaded; a command made the
+ * machine run something else, so that the run of the string begins again. If there is no memory the fate is
+ * TRAC_REFUSED. */
 #define STOPPED 100u
 #define NOT_LOADED 101u
 #define BEGINS_ANEW 102u
@@ -26,7 +28,7 @@ static const char HELP[] =
     "      --check        Tell what is suspicious in the files, and end\n"
     "      --convert      Print old listings as scripts for this program, and end\n"
     "      --with <FILE>  Run this file in front, or in front of each that is checked\n"
-    "      --save <FILE>  Save the forms in a file at the end\n"
+    "      --save <FILE>  Save the forms in a file at the end, as an image in FILE.image\n"
     "  -q, --quiet        Say nothing but faults\n"
     "  -h, --help         Print help\n"
     "  -V, --version      Print version\n";
@@ -38,6 +40,7 @@ static const char COMMANDS[] =
     "^C drops what is half typed, or stops what runs; forms stay.\n"
     "^D ends the session, and so does #(hl)'\n"
     ":save FILE  saves the forms as a script, for another day\n"
+    ":save FILE.image saves them as an image, whose place all forms take at :load\n"
     ":load FILE  runs a file, or loads what was saved\n"
     ":check FILE tells what is suspicious in a file, and runs nothing of it here\n"
     ":help       shows this\n"
@@ -60,32 +63,49 @@ static option options[] = {{"--cells", 0, TAKES_SIGNED, "<N>", 1, TRAC_MOST_CELL
                            {"--version", 'V', TAKES_NOTHING, NULL, 0, 0, VERSION, 0, NULL, 0},
                            {NULL, 0, TAKES_NOTHING, NULL, 0, 0, NULL, 0, NULL, 0}};
 
-/* Where strings are read from: a file, or what is typed. From `start` on it wasn't consumed. */
+/* Where strings are read from: a file, or what is typed. The bytes from `start` on aren't consumed. */
 typedef struct {
-    const char *name; /* of the file; null where it is typed */
+    const char *name; /* of the file; null if strings are typed */
     int is_terminal;
     text bytes;
     size_t start;
     int has_ended;
     int is_behind;       /* whether the last byte that was consumed ended a string that was typed */
-    int has_read;        /* whether the run read its string */
-    size_t line, column; /* of what wasn't consumed */
+    int has_read;        /* whether the run has read its string */
+    size_t line, column; /* of the bytes that aren't consumed */
     size_t string_line, string_column;
 } source;
 
-/* A session: the machine, its block, and what it prints to. */
+/* A session: the machine, its block, and its output. */
 typedef struct {
     trac_machine machine;
     trac_cell *block;
     text print;
-    char end[LONGEST_END + 1]; /* what was printed since the last line end, where it isn't longer */
+    char end[LONGEST_END + 1]; /* what was printed since the last line end, if that isn't longer than this */
     size_t end_length;         /* its whole length */
     watch calls;
 } session;
 
+/* ---- Statuses. */
+
+/* The fate of a file that is loaded: TRAC_GOING, or what kept all of it from being defined. */
+static uint32_t fate_of_loading(loading became) {
+    static const uint32_t fates[] = {TRAC_GOING, NOT_LOADED, NOT_LOADED, TRAC_WORKSPACE, TRAC_STEPS,     TRAC_REFUSED,
+                                     STOPPED,    NOT_LOADED, NOT_LOADED, NOT_LOADED,     TRAC_WORKSPACE, TRAC_REFUSED};
+    return fates[became];
+}
+
+static int status_of(uint32_t fate) {
+    static const int statuses[] = {DONE,         DONE,          DONE, WORKSPACE, STEPS,
+                                   INPUT_FAILED, OUTPUT_FAILED, DONE, DONE,      NO_MEMORY};
+    if (fate == NOT_LOADED)
+        return OUTPUT_FAILED;
+    return fate < sizeof statuses / sizeof *statuses ? statuses[fate] : DONE;
+}
+
 /* ---- Printing. */
 
-/* Keeps in mind what stands on the last line. */
+/* Remembers what is on the last line. */
 static void keep_end(session *of, const uint8_t *bytes, size_t length) {
     for (size_t i = 0; i < length; i++) {
         of->end_length = bytes[i] == '\n' ? 0 : of->end_length + 1;
@@ -99,12 +119,12 @@ static int print(session *of, const uint8_t *bytes, size_t length) {
     return write_all(STDOUT_FILENO, bytes, length);
 }
 
-/* Puts a line end after what was printed, where that lacks one. */
+/* Adds a line end to what was printed, if that doesn't end with one. */
 static int end_line(session *of) { return !of->end_length || print(of, (const uint8_t *)"\n", 1); }
 
 /* ---- Reading. */
 
-/* Runs a file, or loads what was saved in it, and says what went wrong. */
+/* Runs a file, or loads the saved session in it, and reports what went wrong. */
 static void load_file(session *of, const char *name);
 
 static const uint8_t *unread(const source *from) {
@@ -113,7 +133,7 @@ static const uint8_t *unread(const source *from) {
 
 static size_t unread_length(const source *from) { return from->bytes.length - from->start; }
 
-/* Passes over bytes. A column is a byte of ASCII or a character of UTF-8. */
+/* Skips bytes. A column is a byte of ASCII or a character of UTF-8. */
 static void pass(source *from, size_t count) {
     for (const uint8_t *at = unread(from), *end = at + count; at < end; at++) {
         const int is_end = *at == '\n', is_first = (*at & 0xC0) != 0x80;
@@ -125,7 +145,7 @@ static void pass(source *from, size_t count) {
 
 static int is_layout(uint8_t byte) { return byte == '\t' || byte == '\n' || byte == '\r'; }
 
-/* How many bytes of layout stand in front of what wasn't consumed. */
+/* How many bytes of layout precede the rest of what isn't consumed. */
 static size_t layout_length(const source *from) {
     size_t count = 0;
     while (count < unread_length(from) && is_layout(unread(from)[count]))
@@ -133,7 +153,7 @@ static size_t layout_length(const source *from) {
     return count;
 }
 
-/* Notes where a string begins, behind layout. */
+/* Notes where a string begins, after layout. */
 static void note_place(source *from) {
     const source before = *from;
     pass(from, layout_length(from));
@@ -143,19 +163,51 @@ static void note_place(source *from) {
     from->string_column = column;
 }
 
-/* Tells what is suspicious in a file, over a block of its own, and ends the process. */
+/* Tells whether the file of an image can be loaded over this block. Gives the status. */
+static int check_image(const char *name, trac_cell *block) {
+    trac_machine machine = TRAC_NO_MACHINE;
+    text bytes = {NULL, 0, 0, 0};
+    int status = INPUT_FAILED;
+    if (!read_file(&bytes, name)) {
+        say_not_read(name);
+    } else {
+        (void)trac_open(&machine, block, (size_t)options[CELLS].number, 0);
+        const loading became = load_image(&machine, bytes.bytes, bytes.length);
+        if (became != LOADED)
+            say_not_loaded(name, became);
+        status = status_of(fate_of_loading(became));
+    }
+    free(bytes.bytes);
+    return status;
+}
+
+/* Tells what is suspicious in a file, over this block. Gives the status. */
+static int check(char *name, trac_cell *block) {
+    if (is_image_name(name))
+        return check_image(name, block);
+    return check_files(&name, 1, options[WITH].text, block, (size_t)options[CELLS].number, options[ALLOWANCE].number);
+}
+
+/* Does so for each file, and gives the worst status. */
+static int check_all(const command *given, trac_cell *block) {
+    int worst = DONE;
+    for (size_t i = 0; i < given->file_count && worst != OUTPUT_FAILED; i++)
+        worst = worse(worst, check(given->files[i], block));
+    return worst;
+}
+
+/* Reports what is suspicious in a file, in a separate block, and ends the process. */
 static void check_and_end(char *name) {
-    const size_t cells = (size_t)options[CELLS].number;
     (void)signal(SIGINT, SIG_DFL);
-    trac_cell *const block = (trac_cell *)calloc(cells, sizeof *block);
+    trac_cell *const block = (trac_cell *)calloc((size_t)options[CELLS].number, sizeof *block);
     if (block)
-        (void)check_files(&name, 1, options[WITH].text, block, cells, options[ALLOWANCE].number);
+        (void)check(name, block);
     else
         (void)say_line(DONE, "trac_terminal: no memory to check a file\n");
     _exit(DONE);
 }
 
-/* Has another process do that, which ^C ends, and waits for it. */
+/* Makes another process do that, which ^C ends, and waits for it. */
 static void check_one(char *name) {
     const pid_t child = fork();
     if (child == 0)
@@ -167,14 +219,14 @@ static void check_one(char *name) {
     is_interrupted = 0;
 }
 
-/* The file that a command names, if the line is that command; else a null pointer. */
+/* The file that a command names, if the line is that command; otherwise a null pointer. */
 static char *file_of(char *line, const char *command) {
     const size_t length = strlen(command);
     return !strncmp(line, command, length) && line[length] ? line + length : NULL;
 }
 
-/* A line that begins with a colon is a command, unless it begins with two. Gives READ, or what became of the string
- * that was to be typed: a file was run. */
+/* Handles a line that begins with a colon, which is a command unless it begins with two colons. Gives READ, or what
+ * happened to the string that was about to be typed: a file was run. */
 static reading do_command(session *of, char *line) {
     char *name;
     line[strcspn(line, "\n")] = 0;
@@ -193,7 +245,7 @@ static reading do_command(session *of, char *line) {
     return READ;
 }
 
-/* Types a line where a string may begin, or commands up to such a line. */
+/* Reads a line at a place where a string may begin, or commands up to such a line. */
 static reading type_first_line(session *of, source *from) {
     text line = {NULL, 0, 0, 0};
     reading became = READ;
@@ -215,8 +267,8 @@ static reading type_first_line(session *of, source *from) {
     return from->bytes.is_short ? READ_SHORT : became;
 }
 
-/* Types a line at the terminal. Where a string is begun, the prompt shows the meta character that ends it. Where the
- * script itself reads, the prompt is what it printed. */
+/* Reads a line at the terminal. If a string has begun, the prompt shows the meta character that ends it. If the script
+ * itself reads, the prompt is what it printed. */
 static reading type_more(session *of, source *from) {
     const uint32_t meta = trac_meta(&of->machine);
     const char missing[] = {(char)(meta > ' ' && meta < 127 ? meta : '.'), '>', ' ', 0};
@@ -232,7 +284,7 @@ static reading type_more(session *of, source *from) {
     return became;
 }
 
-/* Reads more of what is typed, behind what wasn't consumed, which is moved to the front. */
+/* Reads more of what is typed, after the bytes that aren't consumed, which are moved to the front. */
 static reading read_more(session *of, source *from) {
     if (from->start)
         memmove(from->bytes.bytes, unread(from), unread_length(from));
@@ -248,13 +300,13 @@ static reading read_more(session *of, source *from) {
     return count < 0 ? READ_FAILED : READ;
 }
 
-/* The fate of a run whose reading became this; TRAC_GOING where it can go on. */
+/* The fate of a run whose reading gave this result; TRAC_GOING if the run can go on. */
 static uint32_t fate_of(reading became) {
     static const uint32_t fates[] = {TRAC_GOING, TRAC_INPUT_FAILED, STOPPED, TRAC_REFUSED, BEGINS_ANEW};
     return fates[became];
 }
 
-/* Drops the line feed behind a string that was typed: the key that sent its line gave it. */
+/* Drops the line feed after a string that was typed: it comes from the key that sent the line. */
 static void drop_line_feed(source *from) {
     if (!from->is_behind || !unread_length(from))
         return;
@@ -263,13 +315,13 @@ static void drop_line_feed(source *from) {
         pass(from, 1);
 }
 
-/* Says that a string was read up to its end. */
+/* Notes that a string was read up to its end. */
 static void end_string(source *from) {
     from->has_read = 1;
     from->is_behind = !from->name;
 }
 
-/* Passes over the rest of a string that doesn't fit, up to its meta character or to the end of the input. */
+/* Skips the rest of a string that doesn't fit, up to its meta character or to the end of the input. */
 static uint32_t pass_over(session *of, source *from) {
     const int meta = (int)trac_meta(&of->machine);
     for (;;) {
@@ -287,8 +339,8 @@ static uint32_t pass_over(session *of, source *from) {
     return TRAC_WORKSPACE;
 }
 
-/* Whether what was read is enough for the next step, which reads: a byte, or a string that ends or that the cells can't
- * hold. In what stands in front of `seen` no string ends. */
+/* Whether the bytes read are enough for the next step, which reads: a byte, or a string that ends or that is too long
+ * for the cells. No string ends in the bytes before `seen`. */
 static int is_enough(const session *of, const source *from, size_t seen) {
     const size_t length = unread_length(from), most = trac_part(&of->machine, TRAC_PART_FREE) + 1;
     if (from->has_ended || length <= seen)
@@ -330,7 +382,7 @@ static trac_report make_reading_step(session *of, source *from) {
 
 /* ---- Running. */
 
-/* Makes steps, none of which reads. What one prints is printed before the next one is made. */
+/* Makes steps that don't read. What a step prints is printed before the next step is made. */
 static trac_report make_steps(session *of, uint64_t most) {
     trac_report report = trac_turn(&of->machine, NULL, 0, 0, NULL, 0, most);
     if (report.fate != TRAC_WANTS_OUTPUT)
@@ -348,7 +400,7 @@ static trac_report make_steps(session *of, uint64_t most) {
     return report;
 }
 
-/* Ends the line on which the terminal shows the ^C that stopped a run, where nothing else does. */
+/* Ends the line on which the terminal shows the ^C that stopped a run, if nothing else ends it. */
 static uint32_t stop(const session *of) {
     if (!of->end_length || !isatty(STDOUT_FILENO))
         (void)write_all(STDERR_FILENO, "\n", 1);
@@ -371,9 +423,9 @@ static trac_report run_string(session *of, source *from) {
     return report;
 }
 
-/* ---- What is said. */
+/* ---- Messages. */
 
-/* A fault in words; an empty text where the run wasn't ended by one. */
+/* A fault in words; an empty text if no fault ended the run. */
 static void write_fault(char *to, size_t room, const trac_report *report) {
     const uint64_t cells = options[CELLS].number, steps = options[ALLOWANCE].number, step = report->steps + 1;
     *to = 0;
@@ -391,7 +443,7 @@ static void write_fault(char *to, size_t room, const trac_report *report) {
         (void)snprintf(to, room, "stopped at step %" PRIu64, step);
 }
 
-/* Says a line: in a file that is run by itself, behind the place of the string. */
+/* Prints a line; with --batch, after the place of the string. */
 static void say_of(const source *from, const char *line) {
     text shown = {NULL, 0, 0, 0};
     if (from->name && options[BATCH].number)
@@ -402,7 +454,7 @@ static void say_of(const source *from, const char *line) {
     free(shown.bytes);
 }
 
-/* Says what did nothing, and how the run of a string ended. ^C where nothing runs is no fault. */
+/* Reports the calls that did nothing, and how the run of a string ended. ^C while nothing runs is no fault. */
 static void say_end(session *of, const source *from, const trac_report *report) {
     const text *const lines = &of->calls.lines;
     char fault[100];
@@ -415,22 +467,14 @@ static void say_end(session *of, const source *from, const trac_report *report) 
 
 /* ---- Sources. */
 
-/* Whether no string is read after this fate. */
+/* Whether no more strings are read after this fate. */
 static int ends_source(const source *from, uint32_t fate) {
     if (fate == STOPPED)
         return from->name != NULL;
     return (fate != TRAC_WORKSPACE && fate != TRAC_STEPS) || !from->has_read;
 }
 
-static int status_of(uint32_t fate) {
-    static const int statuses[] = {DONE,         DONE,          DONE, WORKSPACE, STEPS,
-                                   INPUT_FAILED, OUTPUT_FAILED, DONE, DONE,      NO_MEMORY};
-    if (fate == NOT_LOADED)
-        return OUTPUT_FAILED;
-    return fate < sizeof statuses / sizeof *statuses ? statuses[fate] : DONE;
-}
-
-/* Drops what was typed, after ^C. */
+/* Discards what was typed, after ^C. */
 static void drop_typed(source *from) {
     is_interrupted = 0;
     if (!from->name)
@@ -438,7 +482,7 @@ static void drop_typed(source *from) {
     from->is_behind = 0;
 }
 
-/* Runs the strings of a source. Gives the fate of the last, and the worst status of all. */
+/* Runs the strings of a source. Gives the fate of the last string, and the worst status of all. */
 static uint32_t run_strings(session *of, source *from, int *worst) {
     for (;;) {
         trac_report report = run_string(of, from);
@@ -455,29 +499,43 @@ static uint32_t run_strings(session *of, source *from, int *worst) {
     }
 }
 
-/* What became of the files: the worst status, whether one wasn't read or loaded, and whether more may be run. */
+/* The result of running the files: the worst status, whether a file wasn't read or loaded, and whether more may be
+ * run. */
 typedef struct {
     int worst, is_unread, goes_on;
 } outcome;
 
-/* Loads a saved session. Gives TRAC_GOING, or the fate that kept all of it from being defined. */
+/* Loads an image, and says how many forms it took the place of. */
+static loading load_image_of(session *of, const source *from) {
+    const size_t count = trac_form_count(&of->machine);
+    const loading became = load_image(&of->machine, unread(from), unread_length(from));
+    text shown = {NULL, 0, 0, 0};
+    if (became == LOADED && count && !options[QUIET].number)
+        (void)say_line(DONE, "trac_terminal: %s: the image took the place of %zu form%s\n",
+                       shown_in(&shown, from->name, strlen(from->name)), count, count == 1 ? "" : "s");
+    free(shown.bytes);
+    return became;
+}
+
+static int is_image_in(const source *from) { return is_image(from->name, unread(from), unread_length(from)); }
+
+/* Loads a saved session. Gives TRAC_GOING, or the fate because of which nothing of it was defined. */
 static uint32_t load(session *of, source *from) {
-    static const uint32_t fates[] = {TRAC_GOING, NOT_LOADED, NOT_LOADED, TRAC_WORKSPACE, TRAC_STEPS,
-                                     TRAC_REFUSED, STOPPED, NOT_LOADED};
-    const loading became = load_session(&of->machine, of->block, (size_t)options[CELLS].number,
-                                        options[ALLOWANCE].number, unread(from), unread_length(from));
+    const loading became = is_image_in(from)
+                               ? load_image_of(of, from)
+                               : load_session(&of->machine, of->block, (size_t)options[CELLS].number,
+                                              options[ALLOWANCE].number, unread(from), unread_length(from));
     if (became == LOADING_STOPPED) {
         (void)stop(of);
         drop_typed(from);
     }
     if (became != LOADED)
         say_not_loaded(from->name, became);
-    return fates[became];
+    return fate_of_loading(became);
 }
 
-/* Runs the strings of a file, or loads it where it is a saved session, behind a first line that begins with `#!`. A
- * line end is put after what it printed. Gives the fate of its last string, or TRAC_INPUT_FAILED where it can't be
- * read. */
+/* Runs the strings of a file after a first line that begins with `#!`, or loads the file if it is a saved session. Adds
+ * a line end to its output. Gives the fate of the last string, or TRAC_INPUT_FAILED if the file can't be read. */
 static uint32_t run_file(session *of, const char *name, outcome *became) {
     source from = {name, 0, {NULL, 0, 0, 0}, 0, 1, 0, 0, 1, 1, 1, 1};
     uint32_t fate = TRAC_INPUT_FAILED;
@@ -485,7 +543,7 @@ static uint32_t run_file(session *of, const char *name, outcome *became) {
         say_not_read(name);
     } else {
         pass(&from, head_length(&from.bytes));
-        const int is_saved = is_saved_session(unread(&from), unread_length(&from));
+        const int is_saved = is_image_in(&from) || is_saved_session(unread(&from), unread_length(&from));
         fate = is_saved ? load(of, &from) : run_strings(of, &from, &became->worst);
         became->is_unread |= is_saved && fate != TRAC_GOING;
         fate = fate != TRAC_OUTPUT_FAILED && !end_line(of) ? TRAC_OUTPUT_FAILED : fate;
@@ -501,8 +559,8 @@ static void load_file(session *of, const char *name) {
     (void)run_file(of, name, &became);
 }
 
-/* Runs the files, first the one that is to stand in front. Nothing more is run where the output failed, there is no
- * memory, or, unless the files are run by themselves, a file can't be read or loaded. */
+/* Runs the files, beginning with the file of --with. Runs no more files if the output failed, if there is no memory,
+ * or, without --batch, if a file can't be read or loaded. */
 static outcome run_files(session *of, const command *given) {
     outcome became = {DONE, 0, 1};
     uint32_t fate = TRAC_GOING;
@@ -524,8 +582,8 @@ static int run_typed(session *of) {
     return status_of(run_strings(of, &from, &worst));
 }
 
-/* Saves the forms where they were asked for, and gives the status. Where a file wasn't read, whose forms are not there,
- * nothing takes the place of what was saved before. */
+/* Saves the forms if --save asks for it, and gives the status. If a file wasn't read, its forms are missing, so the
+ * earlier saved session stays. */
 static int save(session *of, const outcome *files, int status) {
     const char *const name = options[SAVE].text;
     int is_saved = !name;
@@ -536,7 +594,7 @@ static int save(session *of, const outcome *files, int status) {
     return is_saved || status ? status : OUTPUT_FAILED;
 }
 
-/* Runs all, and gives the status. */
+/* Runs everything, and gives the status. */
 static int run_all(session *of, const command *given) {
     const int is_typed = !options[BATCH].number;
     if (is_typed && isatty(STDIN_FILENO))
@@ -545,14 +603,17 @@ static int run_all(session *of, const command *given) {
     return save(of, &files, is_typed && files.goes_on ? run_typed(of) : files.worst);
 }
 
-/* Refuses options that want a file where there is none, and those that can't stand together. Gives 0 where all is
- * right. */
+/* Refuses options that need a file if there is none, and options that exclude each other. Gives 0 if the options are
+ * valid. */
 static int refuse_together(const command *given) {
     const option *const alone = &options[options[CONVERT].number ? CONVERT : options[CHECK].number ? CHECK : BATCH];
     const char *other = options[BATCH].number ? "--batch" : options[SAVE].text ? "--save <FILE>" : NULL;
     if (alone->number && !given->file_count)
         return say_line(USAGE, "error: the following required arguments were not provided:\n  <FILE>...\n\n"
                                "Usage: trac_terminal %s <FILE>..." HINT, alone->name);
+    if (options[CHECK].number && options[WITH].text && is_image_name(options[WITH].text))
+        return say_line(USAGE, "error: an image can't be run in front of what is checked: '--with %s'" HINT,
+                        options[WITH].text);
     if (options[CONVERT].number && !other)
         other = options[CHECK].number ? "--check" : options[WITH].text ? "--with <FILE>" : NULL;
     if (alone == &options[BATCH] || !other)
@@ -561,11 +622,20 @@ static int refuse_together(const command *given) {
                     given->usage);
 }
 
+static int refuse_image(const char *name) {
+    text shown = {NULL, 0, 0, 0};
+    const int status = say_line(INPUT_FAILED, "trac_terminal: %s: an image is no listing\n",
+                                shown_in(&shown, name, strlen(name)));
+    free(shown.bytes);
+    return status;
+}
+
 /* Prints old listings as scripts. Gives the worst status. */
 static int convert_files(const command *given) {
     int worst = DONE;
     for (size_t i = 0; i < given->file_count && worst != OUTPUT_FAILED; i++)
-        worst = worse(worst, convert_file(given->files[i]));
+        worst = worse(worst, is_image_name(given->files[i]) ? refuse_image(given->files[i])
+                                                            : convert_file(given->files[i]));
     return worst;
 }
 
@@ -585,7 +655,7 @@ int main(int count, char **words) {
     const size_t cells = (size_t)options[CELLS].number;
     trac_cell *const block = (trac_cell *)calloc(cells, sizeof(trac_cell));
     if (block && options[CHECK].number)
-        return check_files(given.files, given.file_count, options[WITH].text, block, cells, options[ALLOWANCE].number);
+        return check_all(&given, block);
     if (!block || trac_open_zeroed(&all.machine, block, cells, options[ALLOWANCE].number))
         return say_line(NO_MEMORY, "trac: no memory for %zu cells\n", cells);
     all.block = block;

@@ -33,14 +33,14 @@ void add_text(text *to, const char *from) { add_bytes(to, from, strlen(from)); }
 /* Whether this is a control character, of ASCII or beyond. */
 static int is_control(const uint8_t *c) { return c[0] < ' ' || c[0] == 127 || (c[0] == 0xC2 && c[1] < 0xA0); }
 
-/* Whether this is a control of the writing direction, which would show a line in another order. */
+/* Whether this controls the writing direction, which would show a line in another order. */
 static int turns_direction(const uint8_t *c) {
     if (c[0] == 0xE2 && c[1] == 0x80)
         return c[2] == 0x8E || c[2] == 0x8F || (c[2] >= 0xAA && c[2] <= 0xAE);
     return (c[0] == 0xD8 && c[1] == 0x9C) || (c[0] == 0xE2 && c[1] == 0x81 && c[2] >= 0xA6 && c[2] <= 0xA9);
 }
 
-/* The length of the character there that can be shown as it is; 0 where there is none. */
+/* The length of the character at the front, if it can be shown as it is; 0 if there is none. */
 static size_t length_shown(const uint8_t *from, size_t left) {
     uint8_t ahead[4] = {0, 0, 0, 0};
     memcpy(ahead, from, left < 4 ? left : 4);

@@ -1,13 +1,14 @@
-/* The program trac over the engine in C: the words, lines and statuses of the proved program, and its way of
- * reading and printing. Written by hand, and not proved. It goes by trac_turn, and gives room for output only
- * where a step asks for it: so each print is one write, made before the next step. */
+/* The program trac over the engine in C: its options, lines and statuses are those of the proved program, and it reads
+ * and prints as that does. Written by hand, and tested, not proved. It makes turns by trac_turn, and gives them room
+ * for output only when a step asks for it: so each print is one write, made before the next step. */
 #define _POSIX_C_SOURCE 200809L
 #include "trac.h"
 #include "words.h"
 
 #include <signal.h>
 
-/* The bytes of a read, and of a print that needs no memory more; the room beside a print, to measure it once. */
+/* The bytes of a read, and of a print that needs no more memory; the room in addition to a print, so that the print is
+ * measured only once. */
 enum { CHUNK = 8192, MORE = 16 };
 
 static const char HELP[] =
@@ -29,14 +30,15 @@ static option options[] = {{"--cells", 0, TAKES_SIGNED, "<N>", 1, TRAC_MOST_CELL
 
 /* ---- The devices. */
 
-/* What was read and not consumed, from `bytes + start` on. There is room for a full workspace, and a read more. */
+/* The bytes that were read and not consumed, from `bytes + start` on. There is room for a full workspace and one more
+ * read. */
 typedef struct {
     uint8_t *bytes;
     size_t start, length;
     int ended;
 } source;
 
-/* Reads once. Gives 0 where that failed. */
+/* Reads once. Gives 0 if that failed. */
 static int read_more(source *from) {
     const ssize_t count = read_once(STDIN_FILENO, from->bytes + from->length, CHUNK);
     from->ended = count == 0;
@@ -44,8 +46,8 @@ static int read_more(source *from) {
     return count >= 0;
 }
 
-/* Reads until the next step can be done: it reads a byte, or a string that ends or that the cells can't hold.
- * Gives 0 where a read failed. */
+/* Reads until the next step can be done: until there is a byte, or a string that ends or that is too long for the
+ * cells. Gives 0 if a read failed. */
 static int feed(const trac_machine *machine, source *from) {
     const int meta = (int)trac_meta(machine);
     const size_t most = trac_awaits(machine) == TRAC_AWAITS_BYTE ? 0 : trac_part(machine, TRAC_PART_FREE) + 1;
@@ -68,7 +70,7 @@ typedef struct {
     size_t room;
 } sink;
 
-/* Makes the room at least this large. Gives 0 where there is no memory for it. */
+/* Makes the room at least this large. Gives 0 if there is no memory for it. */
 static int reserve(sink *to, size_t wanted) {
     uint8_t *const bytes = wanted <= to->room ? to->bytes : (uint8_t *)realloc(to->bytes, wanted);
     if (bytes)
@@ -76,7 +78,8 @@ static int reserve(sink *to, size_t wanted) {
     return bytes != NULL;
 }
 
-/* Makes a turn, with room for one print that the step asked for, or for none. Writes what was printed. */
+/* Makes a turn, with room for one print if the step asked for that, and otherwise without room. Writes what was
+ * printed. */
 static trac_report turn(trac_machine *machine, source *from, const sink *to, size_t room) {
     trac_report report = trac_turn(machine, from->bytes + from->start, from->length, from->ended, to->bytes, room,
                                    room ? 1 : UINT64_MAX);
@@ -89,14 +92,14 @@ static trac_report turn(trac_machine *machine, source *from, const sink *to, siz
     return report;
 }
 
-/* Runs the script, and tells how it ended. TRAC_REFUSED: there is no memory for a print. */
+/* Runs the script, and gives the fate of the run. TRAC_REFUSED: there is no memory for a print. */
 static trac_report run(trac_machine *machine, size_t cells, source *from, sink *to) {
     trac_report report = turn(machine, from, to, 0);
     while (report.fate == TRAC_GOING || report.fate == TRAC_WANTS_INPUT || report.fate == TRAC_WANTS_OUTPUT) {
         if (report.fate == TRAC_WANTS_OUTPUT && !reserve(to, report.wanted + MORE)) {
             report.fate = TRAC_REFUSED;
         } else if (report.fate == TRAC_WANTS_INPUT && !feed(machine, from)) {
-            /* the step's need, for what was read of its string so far */
+            /* the step's need, for the part of its string that was read so far */
             const size_t text = trac_awaits(machine) == TRAC_AWAITS_TEXT ? from->length : 0;
             const uint32_t need = (uint32_t)(cells - trac_part(machine, TRAC_PART_FREE) - 1 + text);
             report.fate = TRAC_INPUT_FAILED;
@@ -108,7 +111,8 @@ static trac_report run(trac_machine *machine, size_t cells, source *from, sink *
     return report;
 }
 
-/* Says how the run ended, and gives the status. A step that is named is the one that wasn't done. */
+/* Prints the line on how the run ended, and gives the status. The step that the line names is the one that wasn't
+ * done. */
 static int ended(const trac_report *report) {
     const uint64_t cells = options[CELLS].number, step = report->steps + 1;
     if (options[REPORT].number && report->fate != TRAC_REFUSED)

@@ -14,9 +14,10 @@
  *   interrupted none of the same machine.
  *
  * The library takes no memory and calls memcpy, memmove and memset alone, beside what the compiler calls for numbers
- * of 64 and 128 bits. A call needs 8 KiB of stack at the most, trac_check and trac_trace_step 16 KiB;
- * trac_engine.c some 2 KiB on a Cortex-M3. On machines of 32 bits size_t has 32 bits, and so have the lengths here;
- * steps have 64 everywhere. trac_abi() says whether a program was compiled against the library's own header. */
+ * of 64 and 128 bits. A call needs 8 KiB of stack at the most, trac_check and trac_trace_step 16 KiB, beside what
+ * functions of yours need that it calls; trac_engine.c some 2 KiB on a Cortex-M3. On machines of 32 bits size_t has
+ * 32 bits, and so have the lengths here; steps have 64 everywhere. trac_abi() says whether a program was compiled
+ * against the library's own header. */
 #ifndef TRAC_H
 #define TRAC_H
 
@@ -84,12 +85,24 @@ typedef struct {
 #define TRAC_INPUT_ENDED 2u   /* the script asked for more input at its end */
 #define TRAC_WORKSPACE 3u     /* the next step needs more cells than there are; it wasn't done */
 #define TRAC_STEPS 4u         /* the allowance is used up */
-#define TRAC_INPUT_FAILED 5u  /* of trac_trace_step: the step reads past an input that fails there */
-#define TRAC_OUTPUT_FAILED 6u /* of trac_run: the output is full, and holds all that was printed up to there */
+#define TRAC_INPUT_FAILED 5u  /* of trac_trace_step and trac_run_with: the step reads past an input that fails there */
+#define TRAC_OUTPUT_FAILED 6u /* of trac_run: the output is full, and holds all that was printed up to there; of
+                               * trac_run_with: a write failed */
 #define TRAC_WANTS_INPUT 7u   /* of a turn: the next step reads more than there is; it wasn't done */
 #define TRAC_WANTS_OUTPUT 8u  /* of a turn: the next step prints more than there is room for; it wasn't done */
 #define TRAC_REFUSED 9u       /* too many cells, a pointer that can't be used, or no opened machine: nothing done */
-#define TRAC_NO_MEMORY 10u    /* of trac_check and trac_trace_step: the memory is too small for their lists */
+#define TRAC_NO_MEMORY 10u    /* of trac_check and trac_trace_step: the memory is too small for their lists; of
+                               * trac_run_with: the buffer is too small for a string */
+#define TRAC_WANTS_ANSWER 11u /* of a turn: the next step performs a call of no function, and trac_stop_at_unknown asked
+                               * to stop there; it wasn't done */
+
+/* Where a value goes that the host gives to a call: trac_answer. */
+#define TRAC_BY_MODE 0u   /* it is scanned again after `#(`, and not after `##(`, as the language has it */
+#define TRAC_SCANNED 1u   /* it is scanned again, whatever the call */
+#define TRAC_UNSCANNED 2u /* it is never scanned again, whatever the call: for data from outside */
+
+/* What a trac_reader or a trac_writer gives where it fails. */
+#define TRAC_FAILED ((size_t)-1)
 
 /* What is behind the input of trac_trace_step. */
 #define TRAC_INPUT_GOES_ON 0
@@ -170,6 +183,14 @@ typedef struct {
                       * lines; else 0 */
 } trac_report;
 
+/* Gives input to trac_run_with: puts at least 1 byte and at most `room` bytes to the front of `to`, and gives their
+ * number; or 0 at the end of the input, or TRAC_FAILED. */
+typedef size_t (*trac_reader)(void *context, void *to, size_t room);
+
+/* Takes what trac_run_with prints: at least the first of these bytes and at most all, and gives their number; or
+ * TRAC_FAILED. */
+typedef size_t (*trac_writer)(void *context, const void *from, size_t length);
+
 /* What is true of every call of a function of the language. */
 typedef struct {
     uint32_t uses;             /* how many arguments behind its name it uses, or TRAC_ALL_ARGUMENTS */
@@ -232,6 +253,25 @@ TRAC_API trac_report trac_run(trac_cell *block, size_t cells, uint64_t steps, co
 TRAC_API trac_report trac_run_zeroed(trac_cell *block, size_t cells, uint64_t steps, const void *script,
                                      size_t script_length, void *output, size_t output_length);
 
+/* Runs a script as trac_run does, whose bytes come from `read` and whose prints go to `write`: each call of either gets
+ * `context`. What a step prints is written before the next step, and `read` is called where a step reads more than
+ * there is, never behind the end of the input. What is read stands in `buffer` until it is consumed, and what a step
+ * prints goes through what is free of it, or where that is less through 256 bytes on the stack. A string has to stand
+ * there whole, with its meta character: a buffer of as many bytes as the block has cells is always enough.
+ *
+ * TRAC_INPUT_FAILED: `read` gave TRAC_FAILED, or more than `room`. TRAC_OUTPUT_FAILED: `write` gave TRAC_FAILED, 0, or
+ * more than `length`; `written` counts the bytes that were taken before. TRAC_NO_MEMORY: the next step reads a string
+ * that the buffer can't hold, which it is full of; the step wasn't done. TRAC_REFUSED, as from trac_run, and where
+ * `read` or `write` is null: neither was called. Else the report is that of trac_run with the same bytes and an output
+ * that is never full. The bytes that were read and not consumed stand at the front of `buffer` then.
+ *
+ * `read` and `write` may do anything but touch the block and the buffer; they may use other machines and make runs of
+ * their own. Either may leave the run by longjmp, or by an exception of C++ where the engine was compiled with
+ * -fexceptions or as C++: nothing is held then. The contents of the block and of the buffer are unspecified, and both
+ * are the caller's again. */
+TRAC_API trac_report trac_run_with(trac_cell *block, size_t cells, uint64_t steps, void *buffer, size_t room,
+                                   trac_reader read, trac_writer write, void *context);
+
 /* Runs a script as trac_run does, and puts what is suspicious in it to the front of `lines`, as much as fits: a line
  * for each place, as "line 2, column 5: no function has the name pss", in the order of their places, and behind them
  * the line of the fault, if one ended the run. These are the lines of `trac_trace --warn`. What the script prints is
@@ -268,8 +308,8 @@ TRAC_API uint32_t trac_moved(trac_machine *machine, trac_cell *block);
  * character isn't there yet, or a byte; nothing was done of it. That is never answered where `ended` is not 0, nor for
  * a string that the cells can't hold: such a step ends the run, as it would if the whole input were there.
  * TRAC_WANTS_OUTPUT: the next step prints `wanted` bytes, more than there is room for behind those written; nothing was
- * done of it. Else the run is over: each later turn that may make a step gives the same fate, until trac_again. The
- * steps and the peak are those of the whole run so far. */
+ * done of it. TRAC_WANTS_ANSWER: see trac_stop_at_unknown. Else the run is over: each later turn that may make a step
+ * gives the same fate, until trac_again. The steps and the peak are those of the whole run so far. */
 TRAC_API trac_report trac_turn(trac_machine *machine, const void *input, size_t input_length, int ended, void *output,
                                size_t output_length, uint64_t most);
 
@@ -281,6 +321,75 @@ TRAC_API uint32_t trac_again(trac_machine *machine, uint64_t steps);
 /* The peak of a machine, in cells, which then counts from 0 again: called after each step it tells what that step
  * needed. 0 where the machine can't be used. */
 TRAC_API uint32_t trac_take_peak(trac_machine *machine);
+
+/* ---- Functions of the host. */
+
+/* Says whether turns stop before a call whose name is no function: where `on` isn't 0 they give TRAC_WANTS_ANSWER
+ * there. trac_argument has the name and the arguments, and trac_answer makes that step with a value. A machine that
+ * was just opened doesn't stop: such a call has the null value. Names of the language's own functions never stop a
+ * turn. Gives 0, or TRAC_REFUSED. */
+TRAC_API uint32_t trac_stop_at_unknown(trac_machine *machine, int on);
+
+/* Makes the next step, which performs a call whose name is no function, with this value in the place of the null one;
+ * `how` is TRAC_BY_MODE, TRAC_SCANNED or TRAC_UNSCANNED. The step needs the cells of both strings and of all forms but
+ * one, and one for each byte of the value. TRAC_GOING: it was done. TRAC_WORKSPACE: it needs more cells than there are,
+ * and the run is over. TRAC_STEPS: the allowance is used up, and the run is over. TRAC_REFUSED: the next step performs
+ * no such call, the run is over, there is no such `how`, or a pointer can't be used; nothing has changed. The null
+ * value with TRAC_BY_MODE makes the step that the language makes. */
+TRAC_API trac_report trac_answer(trac_machine *machine, const void *value, size_t length, uint32_t how);
+
+/* ---- Prints in pieces. With TRAC_WANTS_OUTPUT take what is printed by trac_printed, in buffers of any size, and then
+ * make the step by trac_skip_print: a host with a few bytes runs every script. */
+
+/* What the next step prints, from byte `from` on: the answer is how many bytes there are from there on, and as many as
+ * fit go to the front of `to`. 0 where the step prints nothing, where the run is over, and where the allowance is used
+ * up. */
+TRAC_API size_t trac_printed(const trac_machine *machine, size_t from, void *to, size_t room);
+
+/* Makes the next step, which prints, and writes nothing: as a turn of one step does with room for what it prints.
+ * Gives TRAC_GOING; or TRAC_REFUSED where the next step prints nothing, and nothing has changed. */
+TRAC_API trac_report trac_skip_print(trac_machine *machine);
+
+/* ---- Forms from outside, without a step: whether a run goes on, is over or has used up its cells. Each gives 0, and
+ * places in the list of forms are none any more; or TRAC_REFUSED, and nothing has changed. The peak doesn't count what
+ * they need. Where a length is 0 its pointer may be null. */
+
+/* Makes a form of a name, the codes of a body, as trac_form_codes gives them, and a pointer, from 0 to the number of
+ * codes. It becomes the last form; an older one of that name is removed. Refused where a code is none of a byte or of
+ * a gap with an ordinal up to 16,777,216, and where 3 cells, the name and the body don't fit beside what is there, the
+ * older form of that name included, as for `ds`. On machines whose greatest byte stands first the engine in C turns the
+ * codes for the call and then back, so there they can't stand in memory that is only read. */
+TRAC_API uint32_t trac_define(trac_machine *machine, const void *name, size_t name_length, const uint32_t *codes,
+                              size_t count, size_t pointer);
+
+/* Makes a form of a name and a text, with pointer 0, as `ds` does. */
+TRAC_API uint32_t trac_define_text(trac_machine *machine, const void *name, size_t name_length, const void *body,
+                                   size_t body_length);
+
+/* Removes the form of a name. Refused where no form has it. */
+TRAC_API uint32_t trac_delete(trac_machine *machine, const void *name, size_t name_length);
+
+/* Removes all forms. */
+TRAC_API uint32_t trac_delete_all(trac_machine *machine);
+
+/* Makes a byte the meta character, which ends a string. Refused where it is more than 255. */
+TRAC_API uint32_t trac_set_meta(trac_machine *machine, uint32_t byte);
+
+/* ---- An image of the forms: bytes that hold each form with its gaps and its pointer, and the meta character. They
+ * have no address, are the same on every machine and in every order of bytes, and end with a checksum. An image has 14
+ * bytes, 16 for each form, one for each character of a name or a body, and 8 for each gap. */
+
+/* The length of the image of a machine's forms and its meta character, in bytes; as much of it as fits goes to the
+ * front of `to`. 0 where the machine or a pointer can't be used. */
+TRAC_API size_t trac_save(const trac_machine *machine, void *to, size_t room);
+
+/* Takes an image into a machine: its forms, in their order, and its meta character stand in the place of the machine's
+ * own. The strings stay, and so do the steps, the peak and the end of a run. trac_save then gives the same bytes.
+ * Places in the list of forms are none any more. Gives 0; or TRAC_REFUSED, and nothing has changed, where a byte is
+ * missing or changed, for another version, for two forms of one name, a pointer behind its body or a gap with an
+ * ordinal of 0 or over 16,777,216, and where the forms need more cells than the strings leave. Each pair of names is
+ * compared: 1,000 forms take some hundredths of a second, and ten times as many a hundred times as long. */
+TRAC_API uint32_t trac_load(trac_machine *machine, const void *from, size_t length);
 
 /* ---- A run that is shown. */
 
@@ -319,9 +428,12 @@ TRAC_API size_t trac_form_count(const trac_machine *machine);
  *     trac_form form = TRAC_NO_FORM;
  *     while (trac_next_form(machine, &form)) ...
  *
- * A place is good until the machine's next trac_turn, trac_trace_step, trac_again, trac_moved or trac_open: then it is
- * no form's any more, and this gives 0. It is good while the machine's words stay where they are. */
+ * A place is good until a call that can change the machine: then it is no form's any more, and this gives 0. It is good
+ * while the machine's words stay where they are. */
 TRAC_API int trac_next_form(const trac_machine *machine, trac_form *form);
+
+/* Goes to the form of a name, and gives 1; gives 0, and the place is none then, where no form has it. */
+TRAC_API int trac_find_form(const trac_machine *machine, const void *name, size_t name_length, trac_form *form);
 
 /* The name of a form. */
 TRAC_API size_t trac_form_name(const trac_form *form, void *to, size_t room);

@@ -1,12 +1,13 @@
-/* The program trac_trace over the engine in C: the words, lines and statuses of the proved program. What is shown of a
- * step is told by trac_trace_step, what is suspicious by trac_check. Written by hand, and tested. */
+/* The program trac_trace over the engine in C: its options, lines and statuses are those of the proved program.
+ * trac_trace_step gives the lines for a step, and trac_check those about what is suspicious. Written by hand, and
+ * tested. */
 #include "terminal.h"
 
-/* The bytes of a read, and of a write, which also comes before each read. */
+/* The bytes of a read, and of a write. Lines are also written before each read. */
 enum { CHUNK = 8192, WRITTEN = 65536 };
 
 #define MOST_STEPS UINT64_C(1000000000000)
-/* The widest that a text or a line can be, and the most steps that `--last` shows. */
+/* The maximum width of a text or a line, and the maximum number of steps that `--last` shows. */
 #define MOST_WIDTH UINT64_C(16777216)
 #define MOST_LAST UINT64_C(1000000)
 
@@ -49,8 +50,8 @@ static int not_written(void) { return say_line(OUTPUT_FAILED, "trac_trace: outpu
 
 /* ---- A run that is shown. */
 
-/* What was read stands in `input`, and is consumed up to `start`. `end` says what is behind it: more, the end, or a
- * read that failed. Lines that are not written yet stand in `print`. */
+/* The bytes that were read are in `input`, and are consumed up to `start`. `end` says what comes after them: more
+ * bytes, the end, or a read that failed. Lines that aren't written yet are in `print`. */
 typedef struct {
     trac_machine machine;
     trac_trace trace;
@@ -59,7 +60,7 @@ typedef struct {
     int end;
     int keeps_input; /* what was consumed stays, for another run */
     int is_shown;    /* lines are printed */
-    uint8_t *memory; /* of so many bytes, and behind them as many for lines */
+    uint8_t *memory; /* the number of bytes, which are followed by as many bytes for lines */
     size_t memory_length;
 } tracer;
 
@@ -69,8 +70,8 @@ static int flush(tracer *of) {
     return write_all(STDOUT_FILENO, of->print.bytes, length);
 }
 
-/* Reads once, behind the lines so far. Gives TRAC_GOING, or the fate that ends the run: there is no memory, or the
- * lines can't be written. */
+/* Reads once, into the memory after the input, and writes the lines so far. Gives TRAC_GOING, or the fate that ends the
+ * run: there is no memory, or the lines can't be written. */
 static uint32_t read_more(tracer *of) {
     if (!flush(of))
         return TRAC_OUTPUT_FAILED;
@@ -87,7 +88,8 @@ static uint32_t read_more(tracer *of) {
     return TRAC_GOING;
 }
 
-/* Has what a turn or a step wants, where it wants something. Gives its fate, or that there is none of it. */
+/* Gives a turn or a step what it asks for, if it asks for something. Gives its fate, or the fate that there is none of
+ * what it asks for. */
 static uint32_t give(tracer *of, const trac_report *report) {
     of->start += report->consumed;
     if (report->fate == TRAC_WANTS_OUTPUT)
@@ -98,7 +100,7 @@ static uint32_t give(tracer *of, const trac_report *report) {
     return became == TRAC_GOING ? TRAC_WANTS_INPUT : became;
 }
 
-/* Makes a step, and adds its lines to those that are to be written. */
+/* Makes a step, and adds its lines to those that will be written. */
 static trac_report step(tracer *of) {
     trac_report report;
     do {
@@ -117,13 +119,13 @@ static trac_report step(tracer *of) {
     return report;
 }
 
-/* The numbers of the last steps of which something was shown, in a ring. */
+/* The numbers of the last steps for which something was shown, in a ring. */
 typedef struct {
     uint64_t *numbers;
     size_t most, count;
 } last_steps;
 
-/* Shows a run up to its end, and notes in which steps something was shown. */
+/* Shows a run up to its end, and notes the steps for which something was shown. */
 static trac_report run(tracer *of, last_steps *last) {
     uint64_t noted = 0;
     trac_report report;
@@ -139,7 +141,7 @@ static trac_report run(tracer *of, last_steps *last) {
     return report;
 }
 
-/* Runs the script as it runs without a trace. */
+/* Runs the script without a trace. */
 static trac_report run_unseen(tracer *of) {
     trac_report report;
     do {
@@ -151,7 +153,7 @@ static trac_report run_unseen(tracer *of) {
     return report;
 }
 
-/* What the options ask to be shown. */
+/* What to show, by the options. */
 static trac_trace asked(void) {
     trac_trace trace = TRAC_NO_TRACE;
     trace.from = options[FROM].number;
@@ -163,8 +165,8 @@ static trac_trace asked(void) {
     return trace;
 }
 
-/* Finds the first of the last steps of which the view shows something, by a run whose input is kept. Of the steps
- * themselves the number of all of them tells. Gives TRAC_GOING, or why there is no second run. */
+/* Finds the first of the last steps for which the view shows something, by a run whose input is kept. If the steps
+ * themselves are shown, their total number is enough. Gives TRAC_GOING, or the reason why there is no second run. */
 static uint32_t find_first(tracer *of, uint64_t *first) {
     const uint64_t most = options[LAST].number;
     trac_report report;
@@ -199,7 +201,7 @@ static int status_after(uint32_t fate) {
     }
 }
 
-/* Shows the last steps of a run: it is run twice, the second time over what the first one read. */
+/* Shows the last steps of a run: it is run twice, the second time over the input that the first run read. */
 static uint32_t show_last(tracer *of, trac_cell *block) {
     uint64_t first = 1;
     of->keeps_input = 1;
@@ -215,8 +217,8 @@ static uint32_t show_last(tracer *of, trac_cell *block) {
     return run(of, NULL).fate;
 }
 
-/* Takes memory for the lists and the lines of a step, as much as a step can need: it costs nothing as long as it isn't
- * used. Where there is less, a step may find too little. */
+/* Allocates memory for the lists and the lines of a step, as much as a step can need: memory that isn't used costs
+ * nothing. If the system gives less, a step may run out of it. */
 static int take_memory(tracer *of) {
     const size_t for_a_cell = options[COLUMNS].number ? 256 : 96;
     of->memory_length = ((size_t)1 << 20) + (size_t)options[CELLS].number * for_a_cell;
@@ -242,13 +244,13 @@ static int show(void) {
 
 /* ---- What is suspicious. */
 
-/* The status of a script that was checked, by how its run ended and by how many warnings there are. */
+/* The status of a checked script, from how its run ended and from the number of warnings. */
 static int status_of(uint32_t fate, size_t warnings) {
     const int status = status_after(fate);
     return status || !warnings ? status : SUSPICIOUS;
 }
 
-/* The place of the line of the fault among the lines of a check: behind them where there is none. */
+/* The place of the fault's line among the lines of a check: the end of the lines if there is no such line. */
 static size_t place_of_fault(const checker *with, const trac_report *report) {
     size_t place = report->written;
     if (status_after(report->fate) && place)
@@ -264,8 +266,8 @@ static size_t lines_in(const uint8_t *bytes, size_t length) {
     return count;
 }
 
-/* Where reading fails behind a script, the line of that fault stands behind the lines of its check. A check knows no
- * such input, so the line is that of a trace. Gives 0 where there is no memory. */
+/* If reading fails after a script, the line of that fault comes after the lines of its check. A check has no such
+ * input, so the line is made by a trace. Gives 0 if there is no memory. */
 static int add_failed_end(checker *with, text *script, trac_report *report) {
     static tracer of;
     of.input = *script;
@@ -284,7 +286,7 @@ static int add_failed_end(checker *with, text *script, trac_report *report) {
     return report->fate == TRAC_INPUT_FAILED && !with->lines.is_short;
 }
 
-/* Reads all of standard input. Gives 0 where there is no memory for it. */
+/* Reads all of standard input. Gives 0 if there is no memory for it. */
 static int read_input(text *to, int *has_failed) {
     ssize_t count = 1;
     while (count > 0 && reserve(to, CHUNK)) {
@@ -295,7 +297,7 @@ static int read_input(text *to, int *has_failed) {
     return !to->is_short;
 }
 
-/* A checker with a block. The block is a null pointer where there is no memory for it. */
+/* A checker with a block. The block is a null pointer if there is no memory for it. */
 static checker make_checker(void) {
     const size_t cells = (size_t)options[CELLS].number;
     trac_cell *const block = (trac_cell *)malloc(cells * sizeof *block);
@@ -319,7 +321,7 @@ static int show_warnings(void) {
     return status_of(report.fate, lines_in(with.lines.bytes, place_of_fault(&with, &report)));
 }
 
-/* Adds the lines of a check, each behind the file's name, and the line that sums them up. Gives the status. */
+/* Adds the lines of a check, each after the file's name, and the line with the totals. Gives the status. */
 static int print_check(checker *with, const char *name, const trac_report *report) {
     const char *line = (const char *)with->lines.bytes, *const fault = line + place_of_fault(with, report);
     char summary[160];
@@ -347,7 +349,7 @@ static int print_check(checker *with, const char *name, const trac_report *repor
                                                                          : OUTPUT_FAILED;
 }
 
-/* Says something of a file, and gives the status. */
+/* Prints a line about a file, and gives the status. */
 static int say_of_file(int status, const char *before, const char *name, const char *behind) {
     text shown = {NULL, 0, 0, 0};
     (void)say_line(status, "trac_trace: %s%s%s\n", before, shown_in(&shown, name, strlen(name)), behind);
@@ -392,7 +394,7 @@ static int show_version(void) {
     return write_all(STDOUT_FILENO, line, sizeof line - 1) ? DONE : not_written();
 }
 
-/* The files behind `--check`, before which the options end; a null pointer where it isn't there. */
+/* The files after `--check`, which ends the options; a null pointer if there is no `--check`. */
 static char **files_to_check(char **words) {
     while (*words && strcmp(*words, "--check"))
         words++;

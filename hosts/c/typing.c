@@ -1,5 +1,5 @@
-/* Lines that are typed: edited by libedit where it is there, with a history that is kept in a file and names that are
- * completed; else as the terminal edits them. */
+/* Lines that are typed. libedit edits them if it is available, with a history that is kept in a file and with completed
+ * names; otherwise the terminal edits them. */
 #include "terminal.h"
 
 #include <strings.h>
@@ -21,7 +21,7 @@ static void interrupt(int number) {
     is_interrupted = 1;
 }
 
-/* Has a signal call a function, and interrupt a call of the system. */
+/* Makes a signal call a function and interrupt a system call. */
 static void handle(int number, void (*handler)(int)) {
     struct sigaction action;
     memset(&action, 0, sizeof action);
@@ -29,7 +29,7 @@ static void handle(int number, void (*handler)(int)) {
     (void)sigaction(number, &action, NULL);
 }
 
-/* Reads what is typed. A signal fails it with EINTR, also one that comes just before it waits, if that is ^C. */
+/* Reads what is typed. A signal makes it fail with EINTR, even ^C that comes just before it waits. */
 static ssize_t read_typed(void *to, size_t most) {
     sigset_t held, before;
     fd_set input;
@@ -45,7 +45,7 @@ static ssize_t read_typed(void *to, size_t most) {
     return count < 0 || is_interrupted ? -1 : read(STDIN_FILENO, to, most);
 }
 
-/* Types a line, or a part of one, that the terminal edits. */
+/* Reads a line, or a part of one, that the terminal edits. */
 static reading type_plainly(text *to, const char *prompt, int is_shown, int *has_ended) {
     enum { MOST = 8192 };
     ssize_t count;
@@ -67,11 +67,12 @@ static reading type_plainly(text *to, const char *prompt, int is_shown, int *has
 
 #ifdef WITH_LIBEDIT
 
-/* The lines that are kept in the file; where it has twice as many, it is cut. The names that are shown to choose from,
- * and the bytes of a line of them. The most characters that a window can show. */
+/* The number of lines that are kept in the file; if it has twice as many, it is cut. The number of names that are
+ * offered, and the bytes in a line of them. The maximum number of characters that a window can show. */
 enum { KEPT_LINES = 1000, MOST_NAMES = 100, LINE_OF_NAMES = 70, MOST_PLACES = 2000000 };
 
-/* A byte that is no character is typed as the wide character with this number more, which is none either. */
+/* A byte that is no character is typed as the wide character whose number is greater by this, which is no character
+ * either. */
 enum { RAW = 0xDC00 };
 
 static EditLine *editor;
@@ -84,8 +85,8 @@ static const char *history_file;
 
 static void ignore(int number) { (void)number; }
 
-/* Has a window of more places than there can be taken for one of 24 lines of 80. Called before libedit asks for the
- * size, since that takes memory for all places: where it begins, where it types a line, and where the size changes. */
+/* Treats a window with too many places as one with 24 lines of 80. Called before libedit asks for the size, because
+ * libedit allocates memory for all places: when it begins, when it reads a line, and when the size changes. */
 static void settle_window(void) {
     struct winsize size;
     if (ioctl(STDIN_FILENO, TIOCGWINSZ, &size) != 0 || (unsigned long)size.ws_row * size.ws_col <= MOST_PLACES)
@@ -95,8 +96,8 @@ static void settle_window(void) {
     (void)ioctl(STDIN_FILENO, TIOCSWINSZ, &size);
 }
 
-/* Reads a byte: 1, 0 at the end, -1 where that failed or ^C was typed before. Other signals tell that the program goes
- * on, or that the screen has another size: all is shown anew. */
+/* Reads a byte: gives 1, 0 at the end, -1 if that failed or if ^C was typed before. Other signals mean that the program
+ * continues, or that the screen has another size: then everything is shown again. */
 static ssize_t read_byte(char *to) {
     ssize_t count;
     while ((count = read_typed(to, 1)) < 0 && errno == EINTR && !is_interrupted) {
@@ -109,7 +110,7 @@ static ssize_t read_byte(char *to) {
     return count;
 }
 
-/* Takes the character at the front of some bytes, and gives how many it has; 0 where more are needed, unless these are
+/* Takes the character at the front of some bytes, and gives its length; 0 if more bytes are needed, unless these are
  * all. */
 static size_t take_character(const char *bytes, size_t length, int is_all, wchar_t *to) {
     mbstate_t state;
@@ -124,7 +125,7 @@ static size_t take_character(const char *bytes, size_t length, int is_all, wchar
     return 1;
 }
 
-/* Reads a character for the editor. What was typed before ^C is dropped. */
+/* Reads a character for the editor. What was typed before ^C is discarded. */
 static int read_character(EditLine *of, wchar_t *to) {
     static char held[16];
     static size_t length;
@@ -154,7 +155,7 @@ static void add_wide(text *to, const wchar_t *from, size_t length) {
     }
 }
 
-/* A text as wide characters, to be freed; a null pointer where there is no memory. */
+/* A text as wide characters, which the caller frees; a null pointer if there is no memory. */
 static wchar_t *wide_of(const char *from, size_t length) {
     wchar_t *const wide = (wchar_t *)malloc((length + 1) * sizeof(wchar_t));
     size_t count = 0;
@@ -165,9 +166,9 @@ static wchar_t *wide_of(const char *from, size_t length) {
     return wide;
 }
 
-/* ---- What is pasted. */
+/* ---- Pasted text. */
 
-/* Adds what is pasted, up to the keys that end it, as it stands but for line ends, which come as carriage returns. */
+/* Adds pasted text up to the keys that end it, unchanged except for line ends, which come as carriage returns. */
 static unsigned char paste(EditLine *of, wint_t key) {
     static const wchar_t end[] = L"\033[201~";
     const size_t end_length = sizeof end / sizeof *end - 1;
@@ -194,8 +195,8 @@ static unsigned char paste(EditLine *of, wint_t key) {
 
 /* ---- Names that are completed. */
 
-/* What is looked for: what was typed of an argument, its place among those of its call, and the name of the call's
- * function. What was found: how many names, each ended by a null byte, and what they have in common. */
+/* What is searched for: what was typed of an argument, its place among the arguments of its call, and the name of the
+ * call's function. What was found: the number of names, each followed by a null byte, and their common beginning. */
 typedef struct {
     text begun, function, names, common;
     size_t place, count;
@@ -208,7 +209,7 @@ static int has_special(const uint8_t *name, size_t length) {
     return i < length;
 }
 
-/* Where the arguments begin of the call that stands open in front of the cursor; 0 where there is none. */
+/* Where the arguments of the open call before the cursor begin; 0 if no call is open. */
 static size_t find_call(const uint8_t *line, size_t length) {
     while (length && line[length - 1] != '(' && line[length - 1] != ')')
         length--;
@@ -226,7 +227,7 @@ static void note_arguments(completion *of, const uint8_t *bytes, size_t length) 
     }
 }
 
-/* Takes a name into account that begins as what was typed. */
+/* Counts a name in if it begins with what was typed. */
 static void offer(completion *of, const void *name, size_t length) {
     const uint8_t *const bytes = (const uint8_t *)name;
     size_t same = 0;
@@ -265,7 +266,7 @@ static int names_form(const completion *of) {
     return (forms == TRAC_FORMS_FIRST && of->place == 1) || (forms == TRAC_FORMS_EACH && of->place >= 1);
 }
 
-/* Shows the names, as many of them as fit a screen, in lines below that of the cursor. */
+/* Shows the names, as many as fit the screen, in lines below the line of the cursor. */
 static void show_names(const completion *of) {
     text shown = {NULL, 0, 0, 0}, escaped = {NULL, 0, 0, 0};
     size_t line = 0, count = 0;
@@ -284,8 +285,8 @@ static void show_names(const completion *of) {
     free(escaped.bytes);
 }
 
-/* Completes the name in front of the cursor as far as those that begin so have the same characters, and shows them
- * where there are more. */
+/* Completes the name before the cursor as far as the names that fit have the same characters; if several names fit,
+ * shows them. */
 static unsigned char complete(EditLine *of, wint_t key) {
     static completion found;
     const LineInfoW *const line = el_wline(of);
@@ -326,7 +327,7 @@ static void remember(const char *line, size_t length) {
     free(wide);
 }
 
-/* Adds a line to what is written to the file: its line feeds and reverse solidi behind a reverse solidus each. */
+/* Adds a line to what is written to the file, with a backslash before each of its line feeds and backslashes. */
 static void add_kept(text *to, const char *line, size_t length) {
     for (size_t i = 0; i < length; i++) {
         const char kept[2] = {'\\', line[i] == '\n' ? 'n' : '\\'};
@@ -338,7 +339,7 @@ static void add_kept(text *to, const char *line, size_t length) {
     add_text(to, "\n");
 }
 
-/* Takes a line of the file back, in place, and gives its length. */
+/* Reads a line of the file back, in place, and gives its length. */
 static size_t take_kept(char *line, size_t length) {
     size_t count = 0;
     for (size_t i = 0; i < length; i++) {
@@ -349,7 +350,7 @@ static size_t take_kept(char *line, size_t length) {
     return count;
 }
 
-/* Writes to the file of the history, behind what it holds. */
+/* Appends to the file of the history. */
 static void write_history(const char *bytes, size_t length) {
     const int file = history_file ? open(history_file, O_WRONLY | O_CREAT | O_CLOEXEC | O_APPEND, 0600) : -1;
     if (file < 0)
@@ -370,7 +371,7 @@ static void keep_line(const text *line) {
     free(kept.bytes);
 }
 
-/* Where the last lines of the file begin, so many of them; and how many it has. */
+/* Where the last lines of the file begin, for a given number of lines; and how many lines it has. */
 static size_t last_lines(const text *of, size_t most, size_t *count) {
     size_t at = of->length, from = of->length;
     for (*count = 0; at; at--) {
@@ -382,13 +383,13 @@ static size_t last_lines(const text *of, size_t most, size_t *count) {
     return from;
 }
 
-/* Puts the last lines of the history's file in its place. */
+/* Replaces the history's file by its last lines. */
 static void cut_history(const text *all, size_t from) {
     const text last = {all->bytes + from, all->length - from, 0, 0};
     (void)replace_file(history_file, &last);
 }
 
-/* Reads the history's file, and cuts it where it has become long. */
+/* Reads the history's file, and cuts it if it has become long. */
 static void load_history(void) {
     text all = {NULL, 0, 0, 0};
     size_t count;
@@ -409,7 +410,7 @@ static void load_history(void) {
     free(all.bytes);
 }
 
-/* The name of the history's file; a null pointer where there is none. */
+/* The name of the history's file; a null pointer if there is none. */
 static const char *find_history(void) {
     static text name;
     const char *const given = getenv("TRAC_HISTORY"), *const home = getenv("HOME");
@@ -431,7 +432,7 @@ static wchar_t *prompt_of(EditLine *of) {
     return prompt_shown ? prompt_shown : none;
 }
 
-/* Binds the keys that this program has beside those of the editor. */
+/* Binds the keys that this program adds to those of the editor. */
 static void bind_own_keys(void) {
     (void)el_wset(editor, EL_BIND, L"\t", L"trac-complete", NULL);
     (void)el_wset(editor, EL_BIND, L"\033[200~", L"trac-paste", NULL);
@@ -439,8 +440,8 @@ static void bind_own_keys(void) {
     (void)el_wset(editor, EL_BIND, L"^R", L"em-inc-search-prev", NULL);
 }
 
-/* Binds the keys: those of Emacs at first, then what the user's .editrc says. Where that chooses the keys of vi, all
- * others are gone, and the own keys are bound again. */
+/* Binds the keys: first those of Emacs, then those of the user's .editrc. If that file chooses the keys of vi, all
+ * other bindings are lost, so this program's keys are bound again. */
 static void bind_keys(void) {
     const wchar_t *chosen = NULL;
     (void)el_wset(editor, EL_EDITOR, L"emacs");
@@ -452,7 +453,7 @@ static void bind_keys(void) {
         bind_own_keys();
 }
 
-/* Begins to edit where the terminal can. */
+/* Begins to edit, if the terminal can. */
 static void begin_editing(const trac_machine *machine) {
     const char *const kind = getenv("TERM");
     HistEventW event;
@@ -476,8 +477,8 @@ static void begin_editing(const trac_machine *machine) {
     handle(SIGWINCH, ignore);
 }
 
-/* Leaves of a prompt what stands in the last row of the screen. Gives 0 where that can't be told, since there are
- * control characters in it. */
+/* Reduces a prompt to the part that is in the last row of the screen. Gives 0 if that part is unknown, because the
+ * prompt has control characters. */
 static int keep_last_row(wchar_t *prompt) {
     int columns = 80, column = 0;
     const wchar_t *row = prompt, *at = prompt;
@@ -492,8 +493,8 @@ static int keep_last_row(wchar_t *prompt) {
     return is_told;
 }
 
-/* Makes a prompt ready that stands on the screen already: its last row is shown once more in its place. Where that
- * can't be, the line is typed below it. */
+/* Prepares a prompt that is on the screen already: its last row is shown again in the same place. If that isn't
+ * possible, the line is typed below it. */
 static void stand_behind(const char *prompt) {
     const int is_told = prompt_shown && keep_last_row(prompt_shown);
     if (!is_told && prompt_shown)
@@ -501,7 +502,7 @@ static void stand_behind(const char *prompt) {
     (void)write_all(STDERR_FILENO, is_told || (prompt && !*prompt) ? "\r" : "\n", 1);
 }
 
-/* Types a line with the editor. */
+/* Reads a line with the editor. */
 static reading edit_line(text *to, const char *prompt, int is_shown, int *has_ended) {
     static const char on[] = "\033[?2004h", off[] = "\033[?2004l";
     text line = {NULL, 0, 0, 0};

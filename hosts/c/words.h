@@ -1,5 +1,5 @@
-/* What the programs in C share: how they write, and how they read their words, which is how the proved programs do.
- * Written by hand, and tested. */
+/* What the programs in C share: how they write, and how they read their command line, which is how the proved programs
+ * do it. Written by hand, and tested. */
 #ifndef WORDS_H
 #define WORDS_H
 
@@ -14,7 +14,7 @@
 /* The exit statuses. What the engine calls halted and input ended are both 0. */
 enum { DONE, WORKSPACE, USAGE, STEPS, INPUT_FAILED, OUTPUT_FAILED, NO_MEMORY };
 
-/* Writes all bytes. An interrupted call is made again. Gives 0 where a write failed. */
+/* Writes all bytes. Repeats an interrupted call. Gives 0 if a write failed. */
 static inline int write_all(int device, const void *from, size_t length) {
     const uint8_t *next = (const uint8_t *)from;
     while (length) {
@@ -29,7 +29,7 @@ static inline int write_all(int device, const void *from, size_t length) {
     return 1;
 }
 
-/* Reads once. An interrupted call is made again. Gives 0 at the end, and -1 where the read failed. */
+/* Reads once. Repeats an interrupted call. Gives 0 at the end, and -1 if the read failed. */
 static inline ssize_t read_once(int device, void *to, size_t most) {
     ssize_t count;
     do
@@ -38,8 +38,8 @@ static inline ssize_t read_once(int device, void *to, size_t most) {
     return count;
 }
 
-/* Says something on standard error in one write, and gives the status. Where there is no memory for all of it, its
- * first 199 characters are said. */
+/* Prints a line on standard error in one write, and gives the status. If there is no memory for all of it, its first
+ * 199 characters are printed. */
 static inline int say_line(int status, const char *format, ...) {
     char few[200], *line = few;
     va_list values, again;
@@ -57,7 +57,7 @@ static inline int say_line(int status, const char *format, ...) {
     return status;
 }
 
-/* The length of the character of UTF-8 that begins there; 0 where none does. */
+/* The length of the character of UTF-8 at the front; 0 if there is none. */
 static inline size_t length_of_character(const uint8_t *c) {
     const size_t length = c[0] < 0x80 ? 1 : c[0] < 0xE0 ? 2 : c[0] < 0xF0 ? 3 : 4;
     const uint8_t least = c[0] == 0xE0 ? 0xA0 : c[0] == 0xF0 ? 0x90 : 0x80;
@@ -77,25 +77,25 @@ static inline int is_utf8(const char *word) {
     return length != 0;
 }
 
-/* What an option takes: nothing, a number that is read as one with a sign or as one without, or a text. */
+/* What an option takes: nothing, a number that is read as a signed or as an unsigned one, or a text. */
 typedef enum { TAKES_NOTHING, TAKES_SIGNED, TAKES_UNSIGNED, TAKES_TEXT } option_kind;
 
-/* An option, and what was given for it. A number that wasn't given is as it was; an option without a value that was
- * given has the number 1. */
+/* An option, and the value that was given for it. If no number was given, it keeps its value; an option without a value
+ * has the number 1 if it was given. */
 typedef struct {
     const char *name; /* with its two hyphens */
-    char letter;      /* behind one hyphen; or 0 */
+    char letter;      /* after one hyphen; or 0 */
     option_kind kind;
-    const char *value;    /* what its value is called; or null */
+    const char *value;    /* the name of its value; or null */
     uint64_t least, most; /* the numbers that it takes */
-    const char *shown;    /* a text that it shows, and the program then ends; or null */
+    const char *shown;    /* a text that is printed before the program ends; or null */
     uint64_t number;
     const char *text;
     int is_given;
 } option;
 
-/* A program's options, up to the one without a name. An option whose value is the next word waits until what follows is
- * known. The files, where it takes some, are put at the front of its words. */
+/* A program's options, up to the one without a name. An option whose value is the next word waits until that word is
+ * read. The files, if the program takes files, are put at the front of its words. */
 typedef struct {
     const char *usage;
     option *options;
@@ -112,7 +112,7 @@ static inline int refuse_word(const command *of, const char *word) {
     return say_line(USAGE, "error: unexpected argument '%s' found\n\nUsage: %s" HINT, word, of->usage);
 }
 
-/* The option of this name, or of this letter where that isn't 0. A null pointer where there is none. */
+/* The option with this name, or with this letter if that isn't 0. A null pointer if there is none. */
 static inline option *find_option(const command *of, const char *name, char letter) {
     option *at = of->options;
     while (at->name && (letter ? at->letter != letter : strcmp(at->name, name) != 0))
@@ -120,7 +120,7 @@ static inline option *find_option(const command *of, const char *name, char lett
     return at->name ? at : NULL;
 }
 
-/* What is wrong with a number; a null pointer, and the number, where nothing is. */
+/* What is wrong with a number; a null pointer, and the number, if nothing is wrong. */
 static inline const char *fault_of_number(const char *word, option *to) {
     static char range[80];
     const int is_negative = to->kind == TAKES_SIGNED && *word == '-';
@@ -146,7 +146,7 @@ static inline const char *fault_of_number(const char *word, option *to) {
     return range;
 }
 
-/* Takes the option that waits. Gives -1, or the status with which the program ends, as the functions below. */
+/* Handles the option that waits. Gives -1, or the status with which the program ends, like the functions below. */
 static inline int take_waiting(command *of) {
     option *const to = of->waiting;
     const char *fault = NULL;
@@ -169,7 +169,7 @@ static inline int take_waiting(command *of) {
                  : -1;
 }
 
-/* Takes an option, and what stands behind its equals sign. */
+/* Handles an option, and the text after its equals sign. */
 static inline int take_option(command *of, option *to, const char *value) {
     if (to->kind == TAKES_NOTHING && value)
         return say_line(USAGE, "error: unexpected value '%s' for '%s' found; no more were expected\n\nUsage: %s" HINT,
@@ -188,7 +188,7 @@ static inline int take_option(command *of, option *to, const char *value) {
     return value ? take_waiting(of) : -1;
 }
 
-/* Takes the letters of a word behind its one hyphen. */
+/* Handles the letters of a word after its one hyphen. */
 static inline int take_letters(command *of, const char *letter) {
     int status = -1;
     while (*letter && status < 0) {
@@ -202,7 +202,7 @@ static inline int take_letters(command *of, const char *letter) {
     return status;
 }
 
-/* Takes a word that is no option: the value of the one that waits, or a file. */
+/* Handles a word that is no option: the value of the option that waits, or a file. */
 static inline int take_plain(command *of, char *word) {
     if (of->waiting && !of->value) {
         of->value = word;
@@ -214,7 +214,7 @@ static inline int take_plain(command *of, char *word) {
     return take_waiting(of);
 }
 
-/* Takes a word. Of one that begins with two hyphens an unknown part in front of an equals sign is named. */
+/* Handles a word. If it begins with two hyphens and is unknown, the part before an equals sign is named. */
 static inline int take_word(command *of, char *word) {
     char *const end = word + strcspn(word, "=");
     const char *const value = *end ? end + 1 : NULL;
@@ -233,7 +233,7 @@ static inline int are_utf8(char **words) {
     return !*words;
 }
 
-/* Takes all words: behind `--` stand files alone. */
+/* Handles all words: after `--` there are only files. */
 static inline int take_words(command *of, char **words) {
     int status = -1, are_files = 0;
     of->files = words;

@@ -1,6 +1,6 @@
 # Completion in fish for trac, trac_trace and trac_terminal: the options are those that the program's --help shows.
 
-# Prints the options of a program that are not yet on the command line, each with what the help says of it.
+# Prints the options of a program that are not yet on the command line, each with its text in the help.
 function __trac_options
     set -l given (commandline -opc)
     $argv[1] --help 2>/dev/null </dev/null | while read -l line

@@ -1,8 +1,8 @@
 /**
- * TRAC T-64 in WebAssembly, for browsers and Node. The file trac.wasm lies beside this one.
+ * TRAC T-64 in WebAssembly, for browsers and Node. The file trac.wasm is beside this one.
  *
- * The module is made from a library that is proved; this file, binaryen, which lowers the module to
- * memories of 32 bits, and the host that runs it are not.
+ * The module is made from a proved library. Not proved are this file, binaryen, which converts the module to 32-bit
+ * memory, and the host that runs it.
  * @module
  */
 
@@ -17,7 +17,7 @@ const CODE_SIZE = 4;
 const WORDS_IN_CELL = 2;
 /** The words of 32 bits in a page of a block. */
 const PAGE_WORDS = 16384;
-/** So many are looked at by one test. */
+/** How many words one test looks at. */
 const WORDS_AT_ONCE = 64;
 const REPORT_SIZE = 40;
 const LARGEST = 2n ** 64n - 1n;
@@ -25,46 +25,51 @@ const REFUSED = 9;
 const GOING = 0;
 const WANTS_OUTPUT = 8;
 const NO_MEMORY = 10;
-/** The bytes of a unit of the memory for lists, and those of the lines of a check that are tried first. */
+const WANTS_ANSWER = 11;
+/** The numbers that say where the value goes that the host gives to a call. */
+const DELIVERIES = ['by mode', 'scanned', 'unscanned'];
+/** The bytes of a unit of the memory for lists, and the initial number of bytes for the lines of a check. */
 const LIST_UNIT = 16;
 const LEAST_LINES = 2 ** 16;
-/** The bytes of a trace as the engine keeps it, where the number of its lines' bytes stands, and its widest line. */
+/**
+ * The bytes of a trace in the engine, the place of the number of its lines' bytes, and the greatest width of a line.
+ */
 const TRACE_SIZE = 96;
 const TRACE_LINES = 40;
 const MOST_WIDTH = 16777216;
-/** The bytes for the lists of a step that is shown, and as many for its lines: of any, and more for each cell. */
+/** The bytes for the lists of a shown step, and as many for its lines: a fixed number, and more for each cell. */
 const STEP_LISTS = 2 ** 20;
 const LISTS_OF_A_CELL = 256;
 const MOST_STEP_LISTS = 2 ** 28;
 const WARNING = /^line (\d+), column (\d+): (.*)$/s;
 /** The fates of a turn after which its run goes on. */
-const ON_ITS_WAY = new Set(['going', 'wants input', 'wants output']);
+const ON_ITS_WAY = new Set(['going', 'wants input', 'wants output', 'wants answer']);
 const FATE_NAMES = ['going', 'halted', 'input ended', 'workspace', 'steps', 'input failed',
-    'output failed', 'wants input', 'wants output'];
+    'output failed', 'wants input', 'wants output', 'refused', 'no memory', 'wants answer'];
 const RULE_NAMES = ['idling', 'layout', 'protection', 'argument', 'active call', 'neutral call',
     'number sign', 'end of call', 'character'];
 const AWAITED_NAMES = ['nothing', 'text', 'byte'];
 const PART_NAMES = ['store', 'neutral', 'free', 'active'];
-/** What the numbers of the table of functions mean, and one of them: all arguments. */
+/** What the numbers of the table of functions mean; the last is the number for all arguments. */
 const CONCERNED_NAMES = ['none', 'first', 'each', 'all'];
 const GIVEN_NAMES = ['nothing', 'body', 'part'];
+const SOURCE_NAMES = ['nothing', 'argument', 'body', 'part', 'input', 'made'];
 const ALL_ARGUMENTS = 2 ** 32 - 1;
 
 /**
- * What a run came to.
+ * The result of a run.
  * @typedef {object} Report
- * @property {'halted' | 'input ended' | 'workspace' | 'steps'} fate how it ended: the script called
- * `hl`, or asked for input at its end; a step needs more cells than there are; the allowance is
- * used up
- * @property {bigint} steps the steps done; in JSON a number, or a string where no number is exact
- * @property {number} peak the greatest need of a step, in cells: the least room for the same run
+ * @property {'halted' | 'input ended' | 'workspace' | 'steps'} fate how it ended: the script called `hl`, or asked for
+ * input after its end; a step needs more cells than there are; the allowance is used up
+ * @property {bigint} steps the steps done; in JSON a number, or a string if no number is exact
+ * @property {number} peak the greatest need of a step, in cells: the smallest number of cells for the same run
  * @property {Uint8Array} output what the script printed; left out of JSON
  * @property {string} text the same, read as UTF-8; a byte order mark stays
  * @property {number} consumed how many bytes of the script were read
  */
 
 /**
- * The bytes of trac.wasm that were handed in.
+ * The bytes of trac.wasm that `provide` was given.
  * @type {Uint8Array | ArrayBuffer | undefined}
  */
 let provided;
@@ -76,11 +81,11 @@ let provided;
 let compiled;
 
 /**
- * Hands in the bytes of trac.wasm, for a page or a program that has them inside. Called first, it
- * keeps `run` and `Session.open` from looking for the file. Bytes that are no module are refused by
- * the `run` or `Session.open` that uses them.
+ * Gives this file the bytes of trac.wasm, for a page or a program that contains them. If it is called first, `run` and
+ * `Session.open` don't look for the file. If the bytes are no module, the `run` or `Session.open` that uses them
+ * throws.
  * @param {Uint8Array | ArrayBuffer} bytes
- * @throws {TypeError} where they are no bytes
+ * @throws {TypeError} if they are no bytes
  */
 export function provide(bytes) {
     provided = copied('bytes', bytes);
@@ -88,7 +93,7 @@ export function provide(bytes) {
 }
 
 /**
- * The module. A load that failed is made again by the next call.
+ * The module. If loading fails, the next call tries again.
  * @returns {Promise<WebAssembly.Module>}
  */
 function engine() {
@@ -100,7 +105,7 @@ function engine() {
 }
 
 /**
- * The module, from the bytes that were handed in or from the file.
+ * The module, from the bytes that `provide` was given or from the file.
  * @returns {Promise<WebAssembly.Module>}
  */
 async function loaded() {
@@ -136,7 +141,7 @@ function whole(name, value, least, most) {
 }
 
 /**
- * Memory of a fresh instance, of which parts are taken from the front.
+ * The memory of a fresh instance, whose parts are allocated from the front.
  */
 class Room {
     /** @param {WebAssembly.Instance} instance */
@@ -146,7 +151,7 @@ class Room {
     }
 
     /**
-     * The place of so many bytes.
+     * The place of a part with this number of bytes.
      * @param {number} bytes
      */
     take(bytes) {
@@ -155,7 +160,7 @@ class Room {
         return place;
     }
 
-    /** Has the memory for all that was taken; it may throw a RangeError. */
+    /** Allocates the memory for all parts; may throw a RangeError. */
     reserve() {
         const missing = Number(this.next) - this.exports.memory.buffer.byteLength;
         if (missing > 0) this.exports.memory.grow(Math.ceil(missing / 65536));
@@ -175,7 +180,7 @@ function copied(name, bytes) {
 }
 
 /**
- * The bytes of a text, which is UTF-8 where a string is given.
+ * The bytes of a text; a string is encoded in UTF-8.
  * @param {string} name
  * @param {string | Uint8Array | ArrayBuffer} text
  * @returns {Uint8Array}
@@ -198,7 +203,7 @@ function known(options, names) {
 }
 
 /**
- * How many bytes stand in front of a character that isn't whole yet; all, where none is cut.
+ * How many bytes precede an incomplete character at the end; all bytes if no character is cut.
  * @param {Uint8Array} bytes
  * @returns {number}
  */
@@ -224,7 +229,7 @@ function textOf(bytes) {
 }
 
 /**
- * A report that JSON can hold: its steps are a number, or a string where no number is exact.
+ * A report that can be written as JSON: its steps are a number, or a string if no number is exact.
  * @template {{steps: bigint}} T
  * @param {T} report
  * @returns {T}
@@ -240,7 +245,7 @@ function withJson(report) {
 }
 
 /**
- * What the engine wrote into a report.
+ * Reads what the engine wrote into a report.
  * @param {ArrayBuffer} buffer
  * @param {bigint} place
  */
@@ -276,8 +281,8 @@ function limitsOf(limits) {
  * @param {number} [limits.cells] cells of the workspace, from 1 to 16777216; 65536 if left out
  * @param {number | bigint} [limits.steps] the steps allowed, from 1 to 2^64 - 1; 1000000 if left out
  * @returns {Promise<Report>}
- * @throws {TypeError} where the script is no text, a limit no whole number, or an option unknown
- * @throws {RangeError} where a limit is out of its range, or the memory can't be had
+ * @throws {TypeError} if the script is no text, a limit is no whole number, or an option is unknown
+ * @throws {RangeError} if a limit is out of its range, or the memory can't be had
  */
 export async function run(script, limits = {}) {
     const bytes = bytesOf('script', script);
@@ -299,13 +304,13 @@ export async function run(script, limits = {}) {
 /**
  * Something suspicious in a script.
  * @typedef {object} Warning
- * @property {number} line where it stands, from 1
+ * @property {number} line its line, from 1
  * @property {number} column from 1, in characters
- * @property {string} text what is said of it; of what is in the value of a form, its place there too
+ * @property {string} text the message; for a place in the value of a form, also its place there
  */
 
 /**
- * What a check came to: how the run ended, as in a `Report`, and what is suspicious.
+ * The result of a check: how the run ended, as in a `Report`, and what is suspicious.
  * @typedef {object} CheckReport
  * @property {Report['fate']} fate
  * @property {bigint} steps
@@ -314,21 +319,21 @@ export async function run(script, limits = {}) {
  */
 
 /**
- * Runs a script to its end, and tells what is suspicious in it, by the rules of `trac_trace --warn`:
- * names that are no function, parentheses that end no call, and so on. What it prints isn't kept.
+ * Runs a script to its end, and reports what is suspicious in it, by the rules of `trac_trace --warn`: names that are
+ * no function, parentheses that end no call, and so on. The script's output isn't kept.
  * @param {string | Uint8Array | ArrayBuffer} script the script; of a string, its bytes in UTF-8
  * @param {object} [limits]
  * @param {number} [limits.cells] cells of the workspace, from 1 to 16777216; 65536 if left out
  * @param {number | bigint} [limits.steps] the steps allowed, from 1 to 2^64 - 1; 1000000 if left out
  * @returns {Promise<CheckReport>}
- * @throws {TypeError} where the script is no text, a limit no whole number, or an option unknown
- * @throws {RangeError} where a limit is out of its range, or the memory can't be had
+ * @throws {TypeError} if the script is no text, a limit is no whole number, or an option is unknown
+ * @throws {RangeError} if a limit is out of its range, or the memory can't be had
  */
 export async function check(script, limits = {}) {
     const bytes = bytesOf('script', script);
     const { room, allowed } = limitsOf(limits);
     const compiledEngine = await engine();
-    // the arguments of a call are the longest list, and twice as long where that has grown
+    // the arguments of a call are the longest list, and this list can have twice its size while it grows
     const most = 2 * CELL_SIZE * Number(room);
     for (let [lists, lines] = [2 ** 20 + Math.min(most, 2 ** 26), LEAST_LINES]; ;) {
         const told = checked(await WebAssembly.instantiate(compiledEngine, {}), bytes, room, allowed, lists, lines);
@@ -339,7 +344,7 @@ export async function check(script, limits = {}) {
 }
 
 /**
- * What the engine wrote of a check, and its lines.
+ * Reads what the engine wrote about a check, and its lines.
  * @param {WebAssembly.Instance} instance a fresh one
  * @param {Uint8Array} script
  * @param {bigint} room
@@ -373,7 +378,7 @@ function checkReport({ fate, steps, peak, text }) {
 }
 
 /**
- * The words of a trace before its first step.
+ * The trace's words of memory before its first step.
  * @param {Views} views
  */
 function traceWords(views) {
@@ -389,7 +394,7 @@ function traceWords(views) {
 }
 
 /**
- * A part of a session's memory that grows when more is asked for; what it held is not kept then.
+ * A part of a session's memory that grows when more is needed; its content is then lost.
  */
 class Buffer {
     /** @param {Room} memory */
@@ -400,7 +405,7 @@ class Buffer {
     }
 
     /**
-     * Its place, where there is room for so many bytes; it may throw a RangeError.
+     * Its place, with room for this number of bytes; may throw a RangeError.
      * @param {number} bytes
      */
     of(bytes) {
@@ -421,7 +426,7 @@ class Buffer {
 }
 
 /**
- * Rows of bytes as one.
+ * Joins rows of bytes.
  * @param {Uint8Array[]} rows
  */
 function joined(rows) {
@@ -450,7 +455,7 @@ function areZero(words) {
 }
 
 /**
- * Copies of those pages of a block in which some word isn't 0.
+ * Copies the pages of a block in which some word isn't 0.
  * @param {Uint32Array} block
  */
 function pagesOf(block) {
@@ -463,7 +468,7 @@ function pagesOf(block) {
 }
 
 /**
- * Whether something is what `pagesOf` gives for a block of so many words, or null.
+ * Whether something is what `pagesOf` gives for a block with this number of words, or null.
  * @param {unknown} pages
  * @param {number} length
  */
@@ -474,7 +479,7 @@ function arePages(pages, length) {
 }
 
 /**
- * Makes a block what it was when its pages were taken.
+ * Restores a block from its pages.
  * @param {Uint32Array} block
  * @param {{place: number, words: Uint32Array}[]} pages
  */
@@ -489,45 +494,46 @@ function layPages(block, pages) {
 }
 
 /**
- * What a turn came to.
+ * The result of a turn.
  * @typedef {object} TurnReport
- * @property {'going' | 'wants input' | 'wants output' | 'halted' | 'input ended' | 'workspace' |
- * 'steps'} fate `going` where all its steps were done and the run goes on; `wants input` where the
- * next step reads more than there is, and nothing was done of it; `wants output` where there is no
- * memory for what the next step prints, and nothing was done of it; else how the run ended, as in a
- * `Report`
+ * @property {'going' | 'wants input' | 'wants output' | 'wants answer' | 'halted' | 'input ended' | 'workspace' |
+ * 'steps'} fate `going` if all its steps were done and the run goes on; `wants input` if the next step reads more than
+ * there is; `wants output` if there is no memory for what the next step prints; `wants answer` if the next step
+ * performs a call of no function, and `stopAtUnknown` asked to stop there; in these three cases nothing of the next
+ * step was done; otherwise how the run ended, as in a `Report`
  * @property {bigint} steps the steps of the whole run so far
  * @property {number} peak the greatest need of a step of the whole run so far, in cells
  * @property {Uint8Array} output what was printed in this turn; left out of JSON
- * @property {string} text the same, read as UTF-8, behind the bytes of a character that the turns
- * before cut; a character that this turn cuts is in the text of the next one
- * @property {number} consumed how many bytes of this input were read: the others are given again at
- * the next turn, with more behind them
+ * @property {string} text the same, read as UTF-8, after the bytes of a character that earlier turns cut; a character
+ * that this turn cuts is in the text of the next turn
+ * @property {number} consumed how many bytes of this input were read: give the others again at the next turn, with more
+ * bytes after them
  */
 
 /**
  * What is shown of a run.
  * @typedef {object} Views
- * @property {number | bigint} [from] the first step that is shown, from 1, which it is if left out
- * @property {number | bigint} [to] the last step that is shown, to 2^64 - 1, which it is if left out
- * @property {boolean} [calls] the calls that are performed are shown, and not the steps
- * @property {boolean} [forms] the forms that change are shown, and all of them at the end, and not the steps
- * @property {number} [width] the most bytes of a text, and cells of a string, 0 for all, to 16777216; 100 if left out
- * @property {number} [columns] the most columns of a line, 0 for any number, to 16777216; 0 if left out
+ * @property {number | bigint} [from] the first step that is shown, from 1; 1 if left out
+ * @property {number | bigint} [to] the last step that is shown, up to 2^64 - 1; 2^64 - 1 if left out
+ * @property {boolean} [calls] shows the calls that are performed instead of the steps
+ * @property {boolean} [forms] shows the forms that change, and all forms at the end, instead of the steps
+ * @property {number} [width] the maximum number of bytes of a text, and of cells of a string, 0 for all, up to
+ * 16777216; 100 if left out
+ * @property {number} [columns] the maximum number of columns of a line, 0 for any number, up to 16777216; 0 if left out
  */
 
 /**
- * Makes a step as a turn does whose `most` is 1, and gives its lines too: a head in front of those of the first
- * one, and behind those of the last one how the run ended. No lines where it wants input; output is never wanted. Each
- * later step tells again how the run ended.
+ * Makes a step as a turn with `most` 1 does, and also gives its lines: after a heading if it is the first step, and
+ * before the lines on how the run ended if it is the last step. There are no lines if it wants input; it never wants
+ * output. Each later step says again how the run ended.
  * @callback TraceStep
  * @param {string | Uint8Array | ArrayBuffer} [input] the bytes to read; of a string, its bytes in UTF-8
- * @param {{ended?: boolean}} [how] whether the input ends behind these bytes; it doesn't if left out
+ * @param {{ended?: boolean}} [how] whether the input ends after these bytes; false if left out
  * @returns {TurnReport & {lines: string}}
- * @throws {TypeError} where the input is no text, or an option unknown
- * @throws {RangeError} where the memory for the input, the output or the lines can't be had. If that for the lines was
- * too small, above some million cells, the error has a `report`, a TurnReport: it tells whether the step was made, what
- * it read and what it printed, and only its lines are lost. Else nothing was read or printed
+ * @throws {TypeError} if the input is no text, or an option unknown
+ * @throws {RangeError} if there is no memory for the input, the output or the lines. If the memory for the lines was
+ * too small, which happens above some million cells, the error has a `report`, a TurnReport: it says whether the step
+ * was made, what it read and what it printed, and only its lines are lost. Otherwise nothing was read or printed
  */
 
 /**
@@ -537,41 +543,39 @@ function layPages(block, pages) {
  */
 
 /**
- * A form, as it stands.
+ * A form in its current state.
  * @typedef {object} StoredForm
  * @property {Uint8Array} name
  * @property {Uint8Array} text the body as `pf` shows it: `<N>` for a gap, and `<^>` at the pointer
- * @property {Uint32Array} items the body item by item: 0 to 255 is a byte, 255 + N the gap with the
- * ordinal N
- * @property {number} pointer how many items stand in front of the form's pointer
+ * @property {Uint32Array} items the body item by item: 0 to 255 is a byte, 255 + N the gap with the ordinal N
+ * @property {number} pointer how many items precede the form's pointer
  */
 
 /**
- * What a machine was at some time, for `restore`.
- * @typedef {object} Saved
+ * The state of a machine at some time, for `rewind`.
+ * @typedef {object} Snapshot
  * @property {number} cells
  * @property {Uint8Array} machine
- * @property {{place: number, words: Uint32Array}[] | null} pages those pages of the block in which some
- * word isn't 0, and in front of how many words each stands; null where there was no turn yet: what the
- * block holds is nothing then
+ * @property {{place: number, words: Uint32Array}[] | null} pages the pages of the block in which some word isn't 0,
+ * each with the number of words before it; null if there was no turn yet, so that the block is still empty
  * @property {bigint} steps
  * @property {Uint8Array} cut the bytes of a character that the last turn cut
  */
 
 /**
- * A function of the language: how it is called, what it is, and what is true of every call of it.
+ * A function of the language: its name, a call, a description, and what is true of all its calls.
  * @typedef {object} LanguageFunction
  * @property {string} name its name, in letters of lower case
  * @property {string} call a call of it without the marks, with letters for arguments: `cs,N,Z`
  * @property {string} title what the name is short for
  * @property {string} sentence what it does, in one sentence with the letters of its call
- * @property {string} group the heading under which the manual tells of it
- * @property {number} uses how many arguments behind its name it uses; Infinity if all
- * @property {'none' | 'first' | 'each' | 'all'} forms the forms that a call concerns: none, the one that its first
- * argument names, those that its arguments name, or all
- * @property {boolean} needsForm whether a call does nothing if no form has the name that its first argument is
+ * @property {string} group the heading under which the manual describes it
+ * @property {number} uses how many arguments after its name it uses; Infinity if all
+ * @property {'none' | 'first' | 'each' | 'all'} forms the forms that a call concerns: none, the form that its first
+ * argument names, the forms that its arguments name, or all
+ * @property {boolean} needsForm whether a call does nothing if its first argument is the name of no form
  * @property {boolean} changesForms whether a call can make, change or remove the forms that it concerns
- * @property {'nothing' | 'body' | 'part'} gives what of a form is its value
+ * @property {'nothing' | 'body' | 'part'} gives which part of a form is its value
  * @property {number} defaultArgument which argument is its default value; 0 if it has none
  * @property {boolean} chooses whether its value is its third or its fourth argument
  * @property {boolean} reads whether it reads
@@ -581,19 +585,31 @@ function layPages(block, pages) {
  */
 
 /**
- * One machine that is kept, in a memory of its own: scripts are run by turns, and the forms stay from
- * one to the next. Made by `Session.open`.
+ * Where the value of a call comes from.
+ * @typedef {object} ValueSource
+ * @property {'nothing' | 'argument' | 'body' | 'part' | 'input' | 'made'} kind nothing: the value is null, the call
+ * ends the run, or the step performs no call; an argument; the body of the form that the first argument names, from its
+ * pointer on, with the arguments in its gaps; the part of that body that the pointer passes over in the step, forward
+ * or backward, without the gaps; the input; or made by the function
+ * @property {number} argument the number of the argument that is the value, or, for a part, that is the value if the
+ * pointer stays; 0 for the other kinds
+ * @property {number} sought how many of the items that the pointer passes over at last are no part of the value: for
+ * a search as many as the text has that it looks for, and otherwise 0
+ */
+
+/**
+ * A machine with its own memory: scripts are run in turns, and the forms stay from one script to the next. Made by
+ * `Session.open`.
  */
 export class Session {
     /**
-     * A machine with an empty store of forms.
+     * Opens a session whose machine has no forms.
      * @param {object} [limits]
      * @param {number} [limits.cells] cells of the workspace, from 1 to 16777216; 65536 if left out
-     * @param {number | bigint} [limits.steps] the steps allowed, from 1 to 2^64 - 1; 1000000 if left
-     * out
+     * @param {number | bigint} [limits.steps] the steps allowed, from 1 to 2^64 - 1; 1000000 if left out
      * @returns {Promise<Session>}
-     * @throws {TypeError} where a limit is no whole number, or an option unknown
-     * @throws {RangeError} where a limit is out of its range, or the memory can't be had
+     * @throws {TypeError} if a limit is no whole number, or an option unknown
+     * @throws {RangeError} if a limit is out of its range, or the memory can't be had
      */
     static async open(limits = {}) {
         const { room, allowed } = limitsOf(limits);
@@ -610,6 +626,16 @@ export class Session {
 
     #used = false;
 
+    #stops = false;
+
+    /** @type {Map<string, (...args: Uint8Array[]) => string | Uint8Array | ArrayBuffer | null | undefined>} */
+    #functions = new Map();
+
+    /** @type {TurnReport | undefined} */
+    #interrupted;
+
+    #busy = false;
+
     #cut = new Uint8Array(0);
 
     #machineSize;
@@ -623,6 +649,8 @@ export class Session {
     #input;
 
     #output;
+
+    #value;
 
     #trace;
 
@@ -647,6 +675,7 @@ export class Session {
         this.#memory.reserve();
         this.#input = new Buffer(this.#memory);
         this.#output = new Buffer(this.#memory);
+        this.#value = new Buffer(this.#memory);
         this.#trace = new Buffer(this.#memory);
         this.#lists = new Buffer(this.#memory);
         this.#lines = new Buffer(this.#memory);
@@ -656,17 +685,18 @@ export class Session {
     }
 
     /**
-     * Makes steps over a piece of input, at most so many.
+     * Makes steps over a piece of input, up to a given number.
      * @param {string | Uint8Array | ArrayBuffer} [input] the bytes to read; of a string, its bytes in UTF-8
      * @param {object} [how]
-     * @param {boolean} [how.ended] whether the input ends behind these bytes; false if left out
-     * @param {number | bigint} [how.most] the most steps of this turn; without a bound if left out
+     * @param {boolean} [how.ended] whether the input ends after these bytes; false if left out
+     * @param {number | bigint} [how.most] the maximum number of steps of this turn; without a bound if left out
      * @returns {TurnReport}
-     * @throws {TypeError} where the input is no text, `most` no whole number, or an option unknown
-     * @throws {RangeError} where `most` is out of its range, or the memory for the input or the
-     * output can't be had; nothing was read or printed then
+     * @throws {TypeError} if the input is no text, `most` no whole number, or an option unknown
+     * @throws {RangeError} if `most` is out of its range, or the memory for the input or the output can't be had;
+     * nothing was read or printed then
      */
     turn(input = '', how = {}) {
+        this.#idle();
         known(how, ['ended', 'most']);
         const { ended = false, most = LARGEST } = how;
         const bytes = bytesOf('input', input);
@@ -677,23 +707,145 @@ export class Session {
         const printed = [];
         for (;;) {
             const before = this.#steps;
-            const told = this.#part(place + BigInt(consumed), bytes.length - consumed, ended, left);
+            let told = this.#part(place + BigInt(consumed), bytes.length - consumed, ended, left);
             consumed += told.consumed;
-            left -= told.steps - before;
             printed.push(told.output);
-            if (told.fate !== WANTS_OUTPUT || !this.#hasOutput(told, printed)) {
-                return this.#reportOf(told, joined(printed), consumed);
+            let goesOn = told.fate === WANTS_OUTPUT && this.#hasOutput(told, printed);
+            if (told.fate === WANTS_ANSWER) {
+                const value = this.#valueOf(told, printed, consumed);
+                if (value) told = { ...told, ...this.#answered(value, 0) };
+                goesOn = told.fate === GOING;
             }
+            left -= told.steps - before;
+            if (!goesOn) return this.#reportOf(told, joined(printed), consumed);
         }
     }
 
     /**
-     * The run from here on as lines, which are those of `trac_trace`. A trace is of one run: behind `again` begin
-     * another. The report of a step has the peak of the whole trace, and that of the session counts from 0 again.
+     * Functions of the host, by name. If the name of a call is no function of the language, a turn calls the function
+     * with this name, with the arguments after the name as bytes. It returns the value of the call: a string, bytes, or
+     * nothing for the null value. If it throws an error, the turn ends and throws that error: `interrupted` then says
+     * what the turn read and printed, and the call isn't performed yet. The function may not use the session that calls
+     * it.
+     * @type {Map<string, (...args: Uint8Array[]) => string | Uint8Array | ArrayBuffer | null | undefined>}
+     */
+    get functions() {
+        return this.#functions;
+    }
+
+    /**
+     * The result of the last turn that a function of the host ended by an error.
+     * @type {TurnReport | undefined}
+     */
+    get interrupted() {
+        return this.#interrupted;
+    }
+
+    /**
+     * Makes turns stop, with the fate `wants answer`, before each call whose name is neither a function of the language
+     * nor in `functions`: `argument` gives the call, and `answer` makes its step.
+     * @param {boolean} [stops] true if left out
+     */
+    stopAtUnknown(stops = true) {
+        this.#idle();
+        this.#stops = stops;
+    }
+
+    /**
+     * Makes the next step, which performs a call whose name is no function, with this value.
+     * @param {string | Uint8Array | ArrayBuffer} value
+     * @param {'by mode' | 'scanned' | 'unscanned'} [how] where the value goes: `by mode`, which is the default, as the
+     * language says, so that it is scanned again after `#(` and not after `##(`; `scanned`, so that it is scanned
+     * again; or `unscanned`, so that it never is, for data from outside
+     * @returns {TurnReport}
+     * @throws {TypeError} if the value is no text, or `how` is unknown
+     * @throws {RangeError} if the next step performs no such call, or the run is over; then nothing has changed
+     */
+    answer(value, how = 'by mode') {
+        this.#idle();
+        const number = DELIVERIES.indexOf(how);
+        if (number < 0) throw new TypeError(`there is no way ${how} to give a value`);
+        const told = this.#answered(bytesOf('value', value), number);
+        if (told.fate === REFUSED) throw new RangeError('no call waits for a value');
+        return this.#reportOf(told, new Uint8Array(0), 0);
+    }
+
+    /**
+     * Makes a form from a name, the items of a body and a pointer, without a step. It becomes the last form, and an
+     * older form of that name is removed.
+     * @param {string | Uint8Array | ArrayBuffer} name
+     * @param {string | Uint8Array | ArrayBuffer | Uint32Array} body a text, or items as `forms` gives them
+     * @param {number} [pointer] how many items precede the form's pointer; 0 if left out
+     * @throws {TypeError} if the name or the body is of another type
+     * @throws {RangeError} if an item or the pointer is out of range, or the form doesn't fit; then nothing has changed
+     */
+    define(name, body, pointer = 0) {
+        this.#idle();
+        const codes = body instanceof Uint32Array ? body : Uint32Array.from(bytesOf('body', body));
+        const place = whole('pointer', pointer, 0n, LARGEST);
+        const bytes = bytesOf('name', name);
+        const [at, to] = [this.#input.of(bytes.length), this.#output.of(codes.length * CODE_SIZE)];
+        this.#bytes(at, bytes.length).set(bytes);
+        new Uint32Array(this.#engine.memory.buffer, Number(to), codes.length).set(codes);
+        this.#used = true;
+        this.#taken(this.#engine.trac_engine_define(this.#machine, at, BigInt(bytes.length), to,
+            BigInt(codes.length), place), 'the form does not fit, or an item or the pointer is out of range');
+    }
+
+    /**
+     * Removes the form with a name, without a step.
+     * @param {string | Uint8Array | ArrayBuffer} name
+     * @returns {boolean} whether there was one
+     */
+    delete(name) {
+        this.#idle();
+        const bytes = bytesOf('name', name);
+        const at = this.#input.of(bytes.length);
+        this.#bytes(at, bytes.length).set(bytes);
+        return this.#engine.trac_engine_delete(this.#machine, at, BigInt(bytes.length)) !== REFUSED;
+    }
+
+    /** Removes all forms, without a step. */
+    deleteAll() {
+        this.#idle();
+        this.#engine.trac_engine_delete_all(this.#machine);
+    }
+
+    /**
+     * The image of the forms, with their gaps and pointers, and of the meta character: bytes that are the same on
+     * every machine, for storage or for another session. The strings are no part of it.
+     * @returns {Uint8Array}
+     */
+    save() {
+        return this.#text((to, room) => this.#engine.trac_engine_save(this.#machine, to, room));
+    }
+
+    /**
+     * Takes an image, as `save` gives it: its forms and its meta character take the place of the session's own. The
+     * run goes on where it stands.
+     * @param {Uint8Array | ArrayBuffer} image
+     * @throws {TypeError} where it is no bytes
+     * @throws {RangeError} where the bytes are no whole image, or its forms don't fit beside the strings; nothing has
+     * changed
+     */
+    restore(image) {
+        this.#idle();
+        if (typeof image === 'string') throw new TypeError('image must be bytes');
+        const bytes = bytesOf('image', image);
+        const at = this.#input.of(bytes.length);
+        this.#bytes(at, bytes.length).set(bytes);
+        this.#used = true;
+        this.#taken(this.#engine.trac_engine_load(this.#machine, at, BigInt(bytes.length)),
+            'the bytes are no image of forms, or its forms do not fit');
+    }
+
+    /**
+     * The run from here on as lines, which are those of `trac_trace`. A trace belongs to one run: after `again`, begin
+     * another trace. The report of a step has the peak of the whole trace; the peak of the session counts from 0 again.
      * @param {Views} [views] what is shown
      * @returns {Trace}
-     * @throws {TypeError} where a number is no whole number, or an option unknown
-     * @throws {RangeError} where a number is out of its range
+     * @throws {TypeError} if a number is no whole number, or an option unknown
+     * @throws {RangeError} if a number is out of its range
      */
     trace(views = {}) {
         const words = traceWords(views);
@@ -701,19 +853,19 @@ export class Session {
     }
 
     /**
-     * Begins a new run with this allowance: both strings are cleared, with the calls that are open,
-     * and the steps and the peak count from 0. The forms with their pointers and the meta character
-     * stay.
+     * Begins a new run with this allowance: both strings are cleared, with the open calls, and the steps and the peak
+     * count from 0. The forms with their pointers and the meta character stay.
      * @param {number | bigint} [steps] from 1 to 2^64 - 1; 1000000 if left out
-     * @throws {RangeError} where the number is out of its range
+     * @throws {RangeError} if the number is out of its range
      */
     again(steps = 1000000) {
+        this.#idle();
         this.#engine.trac_engine_again(this.#machine, whole('steps', steps, 1n, LARGEST));
         this.#steps = 0n;
     }
 
     /**
-     * The peak, in cells, which then counts from 0 again: called after each step it tells what that step
+     * The peak, in cells, which then counts from 0 again: if you call this after each step, it gives what that step
      * needed.
      * @returns {number}
      */
@@ -728,7 +880,7 @@ export class Session {
 
     /**
      * The forms, in the order in which they were defined.
-     * @param {number} [most] at most so many, the first ones; all if left out
+     * @param {number} [most] the maximum number, from the first; all if left out
      * @returns {StoredForm[]}
      */
     forms(most = Infinity) {
@@ -758,8 +910,8 @@ export class Session {
     /**
      * A part of the neutral string.
      * @param {number} from the place of its first code, from 0
-     * @param {number} [most] at most so many codes; all from there on if left out
-     * @returns {Uint32Array} as `neutral` gives them; none behind the end
+     * @param {number} [most] the maximum number of codes; all from there on if left out
+     * @returns {Uint32Array} as `neutral` gives them; none past the end
      */
     neutralPart(from, most = Infinity) {
         const place = whole('from', from, 0n, LARGEST);
@@ -769,7 +921,7 @@ export class Session {
 
     /**
      * The active string.
-     * @param {number} [most] at most so many characters, the first ones; all if left out
+     * @param {number} [most] the maximum number of characters, from the first; all if left out
      * @returns {Uint32Array} a byte each, from 0 to 255
      */
     active(most = Infinity) {
@@ -779,8 +931,8 @@ export class Session {
     /**
      * A part of the active string.
      * @param {number} from the place of its first character, from 0
-     * @param {number} [most] at most so many characters; all from there on if left out
-     * @returns {Uint32Array} a byte each; none behind the end
+     * @param {number} [most] the maximum number of characters; all from there on if left out
+     * @returns {Uint32Array} a byte each; none past the end
      */
     activePart(from, most = Infinity) {
         const place = whole('from', from, 0n, LARGEST);
@@ -794,9 +946,9 @@ export class Session {
     }
 
     /**
-     * The open calls, the innermost first: the place at which the mark of each stands in the neutral
-     * string. Its arguments stand behind it, up to the mark of the next call or to the end.
-     * @param {number} [most] at most so many; all if left out
+     * The open calls, the innermost first: the place of each call's mark in the neutral string. Its arguments follow
+     * the mark, up to the mark of the next call or to the end.
+     * @param {number} [most] the maximum number; all if left out
      * @returns {Uint32Array}
      */
     calls(most = Infinity) {
@@ -805,22 +957,20 @@ export class Session {
     }
 
     /**
-     * How many arguments the call has that the next step performs, its name counted, and null ones: one
-     * more than it has comma marks. 0 where that step performs no call, where the run is over, and where
-     * the allowance is used up.
+     * The number of arguments of the call that the next step performs, including its name and null arguments: one more
+     * than it has comma marks. 0 if that step performs no call, if the run is over, or if the allowance is used up.
      */
     argumentCount() {
         return Number(this.#engine.trac_engine_argument_count(this.#machine));
     }
 
     /**
-     * An argument of the call that the next step performs: the bytes that the call gets, after all calls
-     * in it.
+     * An argument of the call that the next step performs: the bytes that the call gets, after all calls in it.
      * @param {number} which 0 is the name
-     * @param {number} [most] at most so many bytes, the first ones; all if left out
-     * @returns {Uint8Array} no bytes where there is no such argument
-     * @throws {TypeError} where `which` is no whole number
-     * @throws {RangeError} where it is out of its range
+     * @param {number} [most] the maximum number of bytes, from the first; all if left out
+     * @returns {Uint8Array} no bytes if there is no such argument
+     * @throws {TypeError} if `which` is no whole number
+     * @throws {RangeError} if it is out of its range
      */
     argument(which, most = Infinity) {
         const number = whole('which', which, 0n, LARGEST);
@@ -829,39 +979,50 @@ export class Session {
     }
 
     /**
+     * Where the value of the call comes from that the next step performs. If your own function has the name, what that
+     * gives doesn't count.
+     * @returns {ValueSource}
+     */
+    valueSource() {
+        const [kind, argument, sought] = [0, 1, 2].map(
+            (which) => Number(this.#engine.trac_engine_value_source(this.#machine, which)));
+        return { kind: /** @type {ValueSource['kind']} */ (SOURCE_NAMES[kind]), argument, sought };
+    }
+
+    /**
      * The functions of the language, in the order of the manual.
      * @returns {LanguageFunction[]}
      */
-    functions() {
+    language() {
         const count = Number(this.#engine.trac_engine_function_count());
         return Array.from({ length: count }, (_, which) => this.#function(BigInt(which)));
     }
 
     /**
-     * How many characters the next step takes from the front of the active string: those that open a
-     * call; a text in parentheses with both of them; all, where a left parenthesis has no match; none
-     * of an empty string; and else one.
+     * How many characters the next step takes from the front of the active string: those that open a call; a text in
+     * parentheses with both parentheses; all, if a left parenthesis has no match; none of an empty string; and
+     * otherwise one.
      */
     takes() {
         return Number(this.#engine.trac_engine_takes(this.#machine));
     }
 
     /**
-     * How many characters the next step drops: all of an active string that begins with a left
-     * parenthesis that has no match, and else none.
+     * How many characters the next step drops: all of an active string that begins with a left parenthesis without a
+     * match, and otherwise none.
      */
     drops() {
         return Number(this.#engine.trac_engine_drops(this.#machine));
     }
 
     /**
-     * How many steps come before the next one at a right parenthesis, which performs a call where one is
-     * open, or at an empty active string. None of them performs a call, reads or prints. They are counted
-     * as if the allowance had no end.
-     * @param {number | bigint} [most] at most so many; without a bound if left out
+     * How many steps come before the next step at a right parenthesis, which performs a call if one is open, or at an
+     * empty active string. None of these steps performs a call, reads or prints. They are counted as if the allowance
+     * were unlimited.
+     * @param {number | bigint} [most] the maximum number; without a bound if left out
      * @returns {number} never more than the active string has characters
-     * @throws {TypeError} where `most` is no whole number
-     * @throws {RangeError} where it is out of its range
+     * @throws {TypeError} if `most` is no whole number
+     * @throws {RangeError} if it is out of its range
      */
     stepsToCall(most = LARGEST) {
         return Number(this.#engine.trac_engine_steps_to_call(
@@ -869,16 +1030,16 @@ export class Session {
     }
 
     /**
-     * The rule of scanning that the next step follows.
-     * @returns {string} by its name in the manual: idling, layout, protection, argument, active call,
-     * neutral call, number sign, end of call or character
+     * The rule of scanning that the next step applies.
+     * @returns {string} by its name in the manual: idling, layout, protection, argument, active call, neutral call,
+     * number sign, end of call or character
      */
     rule() {
         return RULE_NAMES[this.#engine.trac_engine_rule(this.#machine)];
     }
 
     /**
-     * How many cells each part of the block holds.
+     * How many cells each part of the block has.
      * @returns {{store: number, neutral: number, free: number, active: number}}
      */
     parts() {
@@ -887,15 +1048,23 @@ export class Session {
         return { store, neutral, free, active };
     }
 
-    /** The meta character, a byte. */
+    /**
+     * The meta character, a byte, which you can set. A value that is no whole number throws a TypeError; one that is
+     * not from 0 to 255 throws a RangeError.
+     * @type {number}
+     */
     get meta() {
         return this.#engine.trac_engine_meta(this.#machine);
     }
 
+    set meta(byte) {
+        this.#idle();
+        this.#engine.trac_engine_set_meta(this.#machine, Number(whole('meta', byte, 0n, 255n)));
+    }
+
     /**
      * What the next step reads.
-     * @returns {'nothing' | 'text' | 'byte'} `text` where it performs `rs`, `byte` where it performs
-     * `rc`
+     * @returns {'nothing' | 'text' | 'byte'} `text` if it performs `rs`, `byte` if it performs `rc`
      */
     awaits() {
         const awaited = this.#engine.trac_engine_awaits(this.#machine);
@@ -903,10 +1072,10 @@ export class Session {
     }
 
     /**
-     * The whole machine, for `restore`.
-     * @returns {Saved}
+     * The whole machine with its strings, for `rewind`.
+     * @returns {Snapshot}
      */
-    save() {
+    snapshot() {
         return {
             cells: this.#cells,
             machine: this.#bytes(this.#machine, this.#machineSize).slice(),
@@ -917,19 +1086,19 @@ export class Session {
     }
 
     /**
-     * Makes the machine what one was when it was saved: this one, or another that was opened with as
-     * many cells.
-     * @param {Saved} saved
-     * @throws {TypeError} where it isn't what `save` gives
-     * @throws {RangeError} where that one had another number of cells; this one is as before then
+     * Takes the machine back to a state of this session, or of another one that was opened with as many cells.
+     * @param {Snapshot} snapshot
+     * @throws {TypeError} if it isn't what `snapshot` gives
+     * @throws {RangeError} if that session had another number of cells; then this one is as before
      */
-    restore(saved) {
-        const { cells, machine, pages, steps, cut } = saved;
-        if (cells !== this.#cells) throw new RangeError('saved with another number of cells');
+    rewind(snapshot) {
+        this.#idle();
+        const { cells, machine, pages, steps, cut } = snapshot;
+        if (cells !== this.#cells) throw new RangeError('the snapshot is of another number of cells');
         const isMachine = machine instanceof Uint8Array && machine.length === this.#machineSize;
         const isWhole = isMachine && arePages(pages, this.#words().length);
         if (!isWhole || typeof steps !== 'bigint' || !(cut instanceof Uint8Array)) {
-            throw new TypeError('saved must be what save gives');
+            throw new TypeError('snapshot must be what snapshot() gives');
         }
         this.#bytes(this.#machine, this.#machineSize).set(machine);
         if (pages) layPages(this.#words(), pages);
@@ -939,12 +1108,13 @@ export class Session {
     }
 
     /**
-     * Makes a step that is shown, by the words of its trace, which it changes.
+     * Makes a shown step. The words of its trace in memory change.
      * @param {Uint8Array} words
      * @param {Uint8Array} bytes
      * @param {{ended?: boolean}} how
      */
     #show(words, bytes, how) {
+        this.#idle();
         known(how, ['ended']);
         const size = STEP_LISTS + Math.min(LISTS_OF_A_CELL * this.#cells, MOST_STEP_LISTS);
         const [trace, lists, lines, input] = [this.#trace.of(TRACE_SIZE), this.#lists.of(size), this.#lines.of(size),
@@ -972,8 +1142,7 @@ export class Session {
     }
 
     /**
-     * Whether there is room for what a turn wants to print. Where nothing was done, want of memory is
-     * an error.
+     * Whether there is room for what a turn wants to print. If nothing was done, a lack of memory is an error.
      * @param {{wanted: number, consumed: number}} told
      * @param {Uint8Array[]} printed
      */
@@ -988,7 +1157,7 @@ export class Session {
     }
 
     /**
-     * The report of a turn. The text of a run that is over has the bytes of a cut character too.
+     * The report of a turn. If the run is over, the text includes the bytes of a cut character.
      * @param {{fate: number, steps: bigint, peak: number}} told
      * @param {Uint8Array} output
      * @param {number} consumed
@@ -1004,7 +1173,7 @@ export class Session {
     }
 
     /**
-     * A view of bytes of the memory, good until it grows.
+     * A view of bytes of the memory, valid until it grows.
      * @param {bigint} place
      * @param {number} length
      */
@@ -1012,14 +1181,65 @@ export class Session {
         return new Uint8Array(this.#engine.memory.buffer, Number(place), length);
     }
 
-    /** The block, as words of 32 bits; good until the memory grows. */
+    /** The block, as words of 32 bits; valid until the memory grows. */
     #words() {
         return new Uint32Array(
             this.#engine.memory.buffer, Number(this.#block), this.#cells * WORDS_IN_CELL);
     }
 
+    /** Refuses a call of a host's function that uses the session that calls it. */
+    #idle() {
+        if (this.#busy) throw new Error('a function of the host may not use the session that calls it');
+    }
+
     /**
-     * Steps over input that lies in the memory, and what they printed.
+     * Throws if the engine refused.
+     * @param {number} answer
+     * @param {string} reason
+     */
+    #taken(answer, reason) {
+        if (answer === REFUSED) throw new RangeError(reason);
+    }
+
+    /**
+     * The value of the call that waits for one, from the host's function with its name. None if there is no such
+     * function, so that the turn stops there.
+     * @param {{fate: number, steps: bigint, peak: number}} told
+     * @param {Uint8Array[]} printed
+     * @param {number} consumed
+     */
+    #valueOf(told, printed, consumed) {
+        const called = this.functions.get(textOf(this.argument(0)));
+        if (!called) return this.#stops ? undefined : new Uint8Array(0);
+        const args = Array.from({ length: this.argumentCount() - 1 }, (_, i) => this.argument(i + 1));
+        this.#busy = true;
+        try {
+            return bytesOf('the value of a function', called(...args) ?? '');
+        } catch (error) {
+            this.#interrupted = this.#reportOf(told, joined(printed), consumed);
+            throw error;
+        } finally {
+            this.#busy = false;
+        }
+    }
+
+    /**
+     * Makes the step of a call with the value that the host gives.
+     * @param {Uint8Array} value
+     * @param {number} how
+     */
+    #answered(value, how) {
+        const place = this.#value.of(value.length);
+        this.#bytes(place, value.length).set(value);
+        this.#used = true;
+        this.#engine.trac_engine_answer(this.#report, this.#machine, place, BigInt(value.length), how);
+        const told = reportAt(this.#engine.memory.buffer, this.#report);
+        if (told.fate !== REFUSED) this.#steps = told.steps;
+        return told;
+    }
+
+    /**
+     * Makes steps over input in the memory, and gives what they printed.
      * @param {bigint} place
      * @param {number} length
      * @param {boolean} ended
@@ -1028,6 +1248,7 @@ export class Session {
     #part(place, length, ended, most) {
         const output = this.#output.of(1);
         this.#used = true;
+        this.#engine.trac_engine_stop_at_unknown(this.#machine, this.#stops || this.functions.size ? 1 : 0);
         this.#engine.trac_engine_turn(this.#report, this.#machine, place, BigInt(length), output,
             BigInt(this.#output.size), ended ? 1 : 0, most);
         const told = reportAt(this.#engine.memory.buffer, this.#report);
@@ -1063,7 +1284,7 @@ export class Session {
     }
 
     /**
-     * What a call writes as bytes, which answers how many there are.
+     * The bytes that a call writes; the call answers how many there are.
      * @param {(to: bigint, room: bigint) => bigint} call
      * @param {number} [most]
      */
@@ -1075,7 +1296,7 @@ export class Session {
     }
 
     /**
-     * What a call writes as codes, which answers how many there are.
+     * The codes that a call writes; the call answers how many there are.
      * @param {(to: bigint, room: bigint) => bigint} call
      * @param {number} [most]
      */

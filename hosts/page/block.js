@@ -14,7 +14,7 @@ const PARTS = [
  * A bar of the parts, to scale.
  * @param {HTMLElement} bar
  * @param {Record<string, number>} parts
- * @param {number} cells what the whole bar stands for
+ * @param {number} cells the number of cells that the whole bar represents
  * @param {number} peak
  */
 function showBar(bar, parts, cells, peak) {
@@ -32,10 +32,10 @@ function showBar(bar, parts, cells, peak) {
 }
 
 /**
- * Shows the block to scale, and as it would be with no cell more than the run needs.
+ * Shows the block to scale, and how it would be with only the cells that the run needs.
  * @param {Record<string, number>} parts
- * @param {{cells: number, need: number | null, peak: number, least: number}} sizes what the last step needed, where
- * that is known; the peak up to here, and of the run
+ * @param {{cells: number, need: number | null, peak: number, least: number}} sizes what the last step needed, if that
+ * is known; the peak so far, and that of the run
  */
 export function showBlock(parts, { cells, need, peak, least }) {
     const used = cells - parts.free;

@@ -1,5 +1,5 @@
 /**
- * The boxes of the script and of the input behind it: their texts as bytes, the marks in them, and that
+ * The boxes of the script and of the input after it: their texts as bytes, and the marks in them; they make sure that
  * nothing typed is lost.
  * @module
  */
@@ -13,13 +13,22 @@ const MOST_IN_COLOUR = 1000;
 // How many characters stand in a square as wide as the type is large, and some more.
 const CHARACTERS_IN_SQUARE = 1.2;
 const MOST_ASIDE = 20;
+// For how many milliseconds nothing is typed before a long text is kept.
+const REST = 1000;
 // Of a long text so much of a part is marked: what stands behind it needs no layout then.
 const MOST_MARKED = 4000;
 const PIECE_READ = 256;
+// The most bytes of a character in UTF-8.
+const LONGEST_WIDTH = 4;
 const STORE = 'trac-t64-page';
+/** What is highlighted as scanned now, in both boxes; none in a browser without highlights. */
+const HERE = 'highlights' in CSS ? new /** @type {any} */ (window).Highlight() : null;
+if (HERE) /** @type {any} */ (CSS).highlights.set('here', HERE);
 const strict = new TextDecoder('utf-8', { fatal: true, ignoreBOM: true });
 
 /** @typedef {{script: string, input: string}} Texts */
+
+/** @typedef {{from: number, to: number}} Stretch a part of a text, or of both one behind another */
 
 /**
  * The bytes of a text of a box, in UTF-8. A byte that can't stand in a box, as it is no UTF-8 or a
@@ -85,6 +94,22 @@ function* partsOf(bytes) {
 }
 
 /**
+ * The bytes of the character of which a byte is a part, or that byte alone.
+ * @param {Uint8Array} bytes
+ * @param {number} place
+ * @returns {Stretch}
+ */
+export function bytesAround(bytes, place) {
+    for (let from = place; from > place - LONGEST_WIDTH && from >= 0; from -= 1) {
+        for (let to = place + 1; to <= Math.min(bytes.length, from + LONGEST_WIDTH); to += 1) {
+            const text = wholeText(bytes.subarray(from, to));
+            if (text !== null) return [...text].length === 1 ? { from, to } : { from: place, to: place + 1 };
+        }
+    }
+    return { from: place, to: place + 1 };
+}
+
+/**
  * The characters of bytes, and each byte that is part of none.
  * @param {Uint8Array} bytes
  */
@@ -104,6 +129,12 @@ class Box {
         this.sheet = find(`${id}-marks`);
         /** @type {{from: number, to: number, isFault: boolean} | null} */
         this.part = null;
+        /** @type {Stretch | null} what is scanned now */
+        this.here = null;
+        /** @type {Range | null} the same on the sheet */
+        this.range = null;
+        /** How much of the text is on the sheet. */
+        this.end = 0;
         /** @type {number[]} the places of suspicious characters, in order */
         this.spots = [];
         /** The text that the sheet was drawn for. */
@@ -143,21 +174,40 @@ class Box {
     }
 
     /**
-     * Marks a part of the text, and scrolls the box to it.
+     * Marks a part of the text, and what is scanned now, and scrolls the box to that, or else to the part.
      * @param {{from: number, to: number, isFault: boolean} | null} part
+     * @param {Stretch | null} here
      */
-    mark(part) {
-        this.part = part && part.from < part.to ? part : null;
-        this.draw();
-        const marked = this.sheet.querySelector('mark');
+    mark(part, here) {
+        this.here = here && here.from < here.to ? here : null;
+        const wanted = part && part.from < part.to ? part : null;
+        const isDrawn = JSON.stringify(wanted) === JSON.stringify(this.part) && (here?.to ?? 0) <= this.end;
+        this.part = wanted;
+        if (isDrawn) this.showHere();
+        else this.draw();
+        const place = this.placeOfMark();
         // where one types the cursor stays in view
-        if (!marked || document.activeElement === this.box) return;
+        if (place === null || document.activeElement === this.box) return;
         const { scrollTop, clientHeight } = this.box;
-        const place = marked.offsetTop;
         if (place < scrollTop || place > scrollTop + clientHeight - 48) {
             this.box.scrollTop = place - clientHeight / 3;
         }
         this.scrollUnder();
+    }
+
+    /** How far below the begin of the text stands what is marked, or null where nothing is. */
+    placeOfMark() {
+        const marked = this.range ?? this.sheet.querySelector('mark');
+        const { top } = this.sheet.getBoundingClientRect();
+        return marked && marked.getBoundingClientRect().top - top + this.sheet.scrollTop;
+    }
+
+    /** Highlights what is scanned now, which changes nothing of the layout of a long text. */
+    showHere() {
+        if (this.range) HERE?.delete(this.range);
+        this.range = this.here && rangeOf(this.sheet, this.here);
+        if (this.range) HERE?.add(this.range);
+        this.box.parentElement.classList.toggle('scanning', Boolean(this.range));
     }
 
     /**
@@ -172,8 +222,9 @@ class Box {
 
     /** Draws another text than the one that was drawn; what was marked in that is not marked in this. */
     refresh() {
-        if (this.text === this.drawn && !this.part) return;
+        if (this.text === this.drawn && !this.part && !this.here) return;
         this.part = null;
+        this.here = null;
         this.spots = [];
         this.centre = this.box.selectionStart;
         this.draw();
@@ -186,16 +237,25 @@ class Box {
         this.drawn = text;
         this.parens.clear();
         this.box.parentElement.classList.toggle('coloured', isColoured);
-        const [from, to] = part ? [part.from, part.to] : [text.length, text.length];
-        const end = isColoured || isWhole ? to : Math.min(to, from + MOST_MARKED);
-        const pieces = isColoured ? null : [text.slice(0, from), text.slice(from, end), text.slice(end)];
-        const [front, middle, back] = pieces?.map((each) => [each]) ?? cut(this.parts(text, isWhole), from, to);
+        const isCut = !isColoured && !isWhole;
+        this.end = isCut ? this.endOfDrawn() : text.length;
+        const [from, to] = part ? [part.from, Math.min(part.to, this.end)] : [text.length, text.length];
+        const parts = isColoured ? this.parts(text, isWhole) : [{ node: text.slice(0, this.end), at: 0 }];
+        const [front, middle, back] = cut(parts, from, to);
         const marked = part ? [element('mark', part.isFault ? 'fault' : '', ...middle)] : middle;
-        if (isColoured || isWhole) this.sheet.replaceChildren(...front, ...marked, ...back, '\n');
-        else if (part) this.sheet.replaceChildren(...front, ...marked, this.rest());
+        if (!isCut) this.sheet.replaceChildren(...front, ...marked, ...back, '\n');
+        else if (this.end) this.sheet.replaceChildren(...front, ...marked, ...back, this.rest());
         else this.sheet.replaceChildren();
+        this.showHere();
         this.showPair();
         this.scrollUnder();
+    }
+
+    /** How much of a long text is drawn: that in front of what is marked, and that with a part of it. */
+    endOfDrawn() {
+        const { part, here } = this;
+        if (!part) return here?.to ?? 0;
+        return Math.max(here?.to ?? 0, Math.min(part.to, Math.max(part.from, here?.from ?? 0) + MOST_MARKED));
     }
 
     /** What stands on the sheet in place of the text behind a marked part: it scrolls as far as the box. */
@@ -283,7 +343,8 @@ class Box {
     }
 
     scrollUnder() {
-        this.sheet.scrollTop = this.box.scrollTop;
+        // an empty sheet needs no layout of a long text
+        if (this.sheet.firstChild) this.sheet.scrollTop = this.box.scrollTop;
     }
 }
 
@@ -359,6 +420,32 @@ function cut(parts, from, to) {
     return three.map((nodes) => nodes.filter((node) => node !== ''));
 }
 
+/**
+ * The range of a stretch of a text that is drawn on a sheet, or null where it isn't drawn.
+ * @param {HTMLElement} sheet
+ * @param {Stretch} stretch
+ */
+function rangeOf(sheet, { from, to }) {
+    const texts = textsOf(sheet);
+    const within = (/** @type {number} */ place) => texts.find(({ node, at }) => place <= at + node.length);
+    const [first, last] = [within(from + 1), within(to)];
+    if (!first || !last) return null;
+    const range = document.createRange();
+    range.setStart(first.node, from - first.at);
+    range.setEnd(last.node, to - last.at);
+    return range;
+}
+
+/**
+ * What of a stretch of both texts is in a box.
+ * @param {Stretch} stretch
+ * @param {number} start where the text of the box begins
+ * @param {number} length
+ */
+function within({ from, to }, start, length) {
+    return { from: Math.max(0, Math.min(from - start, length)), to: Math.max(0, Math.min(to - start, length)) };
+}
+
 /** Both boxes. */
 export class Boxes {
     /** @param {() => void} onChange told where a text changes, whoever changes it */
@@ -370,6 +457,8 @@ export class Boxes {
         /** @type {Texts} */
         this.filled = { script: '', input: '' };
         this.isFilling = false;
+        /** @type {number | undefined} */
+        this.saving = undefined;
         for (const { box } of Object.values(this.boxes)) {
             box.addEventListener('input', () => this.isFilling || this.changed());
         }
@@ -392,7 +481,15 @@ export class Boxes {
     changed() {
         for (const box of Object.values(this.boxes)) box.refresh();
         this.onChange();
-        this.save();
+        this.saveSoon();
+    }
+
+    /** Keeps all texts: long ones when nothing is typed for a while, as a key would take longer otherwise. */
+    saveSoon() {
+        window.clearTimeout(this.saving);
+        const { script, input } = this.texts;
+        if (script.length + input.length <= MOST_COLOURED) this.save();
+        else this.saving = window.setTimeout(() => this.save(), REST);
     }
 
     /**
@@ -433,6 +530,7 @@ export class Boxes {
 
     /** Keeps all texts over a reload, where the browser has a place for them. */
     save() {
+        window.clearTimeout(this.saving);
         find('bring-back').hidden = !this.aside.length;
         const { aside, filled, texts } = this;
         const [cells, steps] = [find('cells').value, find('steps').value];
@@ -466,19 +564,18 @@ export class Boxes {
     }
 
     /**
-     * Marks a part of the texts, of which that of the script comes first.
-     * @param {{from: number, to: number, isFault: boolean} | null} part
+     * Marks a part of the texts, of which that of the script comes first, and what is scanned now.
+     * @param {Stretch & {isFault: boolean} | null} part
+     * @param {Stretch | null} [here]
      */
-    mark(part) {
+    mark(part, here = null) {
         const { script, input } = this.boxes;
         const first = script.text.length;
-        const within = (/** @type {number} */ start, /** @type {number} */ length) => part && {
-            from: Math.max(0, Math.min(part.from - start, length)),
-            to: Math.max(0, Math.min(part.to - start, length)),
-            isFault: part.isFault,
-        };
-        script.mark(within(0, first));
-        input.mark(within(first, input.text.length));
+        for (const [box, start] of /** @type {const} */ ([[script, 0], [input, first]])) {
+            const { length } = box.text;
+            const inBox = part && { ...within(part, start, length), isFault: part.isFault };
+            box.mark(inBox, here && within(here, start, length));
+        }
     }
 
     /**

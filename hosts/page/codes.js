@@ -26,9 +26,11 @@ export const RULES = {
 };
 
 const LONGEST_RUN = 4096;
+/** The most bytes of a character in UTF-8. */
+const LONGEST = 4;
 /** Of how many characters a line is made at most. */
 export const MOST_IN_LINE = 400;
-/** The front of a row of codes that a line shows, and one code more where there are more. */
+/** The first codes of a row, as many as a line shows, and one more code if there are more. */
 export const FRONT_OF_LINE = MOST_IN_LINE + 1;
 /** Of how many arguments of a call the words are read at most: each is looked for from the first one on. */
 export const MOST_ARGUMENTS = 100;
@@ -39,7 +41,7 @@ const decoder = new TextDecoder('utf-8', { fatal: true, ignoreBOM: true });
 const letters = new TextDecoder('latin1');
 
 /**
- * How many bytes the character has that begins with this byte in UTF-8, or 1 where none does.
+ * The length in bytes of the UTF-8 character that begins with this byte, or 1 if no character does.
  * @param {number} byte
  */
 function widthOf(byte) {
@@ -49,7 +51,7 @@ function widthOf(byte) {
 }
 
 /**
- * The visible character that begins at a place, or null where none does.
+ * The visible character that begins at a place, or null if no visible character does.
  * @param {Codes} codes
  * @param {number} place
  * @param {Set<number>} stops places that it may not reach over
@@ -64,6 +66,20 @@ function characterAt(codes, place, stops) {
     } catch {
         return null;
     }
+}
+
+/**
+ * The visible character that a code is a part of, or that code alone.
+ * @param {Codes} codes
+ * @param {number} place
+ * @returns {{from: number, to: number}}
+ */
+export function characterAround(codes, place) {
+    for (let from = place; from > place - LONGEST && codes[from] < 256; from -= 1) {
+        const to = from + (characterAt(codes, from, new Set())?.width ?? 0);
+        if (to > place) return { from, to };
+    }
+    return { from: place, to: place + 1 };
 }
 
 /**
@@ -88,7 +104,7 @@ function plainLength(codes, place, stops) {
 }
 
 /**
- * What is visible at a place, or null where that is no visible character.
+ * The visible character at a place, or null if there is none.
  * @param {Codes} codes
  * @param {number} place
  * @param {Set<number>} stops
@@ -105,7 +121,7 @@ function visibleAt(codes, place, stops) {
  */
 
 /**
- * A part of what is shown: plain text, an escaped byte, or a code above 255.
+ * A part of what is shown: text, an escaped byte, or a code above 255.
  * @typedef {{kind: 'text' | 'escape' | 'mark', text: string, code: number, at: number}} Piece
  */
 
@@ -150,7 +166,7 @@ export function plainText(bytes) {
 }
 
 /**
- * The name of the call that a machine's next step performs, as a line. Null where that step performs none.
+ * The name of the call that a machine's next step performs, as a line. Null if that step performs no call.
  * @param {import('../js/trac.mjs').Session} machine
  */
 export function nameAhead(machine) {
@@ -158,8 +174,8 @@ export function nameAhead(machine) {
 }
 
 /**
- * The call that a machine's next step performs: its mark, the place of that, how many arguments it has
- * behind the name, and the first of these as lines, the name in front. Null where that step performs none.
+ * The call that a machine's next step performs: its mark, the place of the mark, the number of arguments after the
+ * name, and the first of these as lines, after the name. Null if that step performs no call.
  * @param {import('../js/trac.mjs').Session} machine
  */
 export function callAhead(machine) {
@@ -193,7 +209,7 @@ export function nameKey(name) {
 }
 
 /**
- * The front of a row of codes as one line, with what is no visible character escaped.
+ * The first codes of a row as one line, in which everything but visible characters is escaped.
  * @param {Codes} codes
  */
 export function lineOf(codes) {
@@ -202,7 +218,7 @@ export function lineOf(codes) {
 }
 
 /**
- * A text, or its front where it is long.
+ * A text, or its beginning if it is long.
  * @param {string} text
  */
 export function shortName(text) {
@@ -210,10 +226,10 @@ export function shortName(text) {
 }
 
 /**
- * A text parted at its parentheses, each of which has the depth of the call or the text it belongs to.
+ * A text split at its parentheses, each with the depth of the call or the text that it belongs to.
  * @param {string} text
- * @param {number} [open] how many are open in front of it
- * @returns {{text: string, depth: number, at: number}[]} the depth is 0 of what is no parenthesis
+ * @param {number} [open] how many are open before the text
+ * @returns {{text: string, depth: number, at: number}[]} the depth is 0 if the text is no parenthesis
  */
 export function byDepth(text, open = 0) {
     const parts = [];
@@ -227,10 +243,10 @@ export function byDepth(text, open = 0) {
 }
 
 /**
- * How many parentheses are open in front of a place of a text.
+ * How many parentheses are open before a place in a text.
  * @param {string} text
  * @param {number} place
- * @param {number} [open] how many are open in front of the text
+ * @param {number} [open] how many are open before the text
  */
 export function openAt(text, place, open = 0) {
     let depth = open;
@@ -242,7 +258,7 @@ export function openAt(text, place, open = 0) {
 }
 
 /**
- * The place of the parenthesis that belongs to the one at a place, or -1.
+ * The place of the parenthesis that matches the one at a place, or -1.
  * @param {string} text
  * @param {number} place
  */

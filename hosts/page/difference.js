@@ -9,13 +9,13 @@ import { blank, element, find } from './dom.js';
 import { withoutEnd } from './trial.js';
 
 /**
- * The first line in which two outputs differ: its text in either, or null where there is no such line; its number; and
+ * The first line in which two outputs differ: its text in each, or null if there is no such line; its number; and
  * whether another line follows it.
  * @typedef {{texts: (string | null)[], number: number, follows: boolean[]}} Difference
  */
 
 /**
- * Where an output differs from the one that is wanted, or null.
+ * Where an output differs from the wanted one, or null.
  * @param {string} output
  * @param {string} wanted
  * @returns {Difference | null}
@@ -34,7 +34,8 @@ export function differenceOf(output, wanted) {
 }
 
 /**
- * The place behind the blanks that a line has more than another at a place, or null where it hasn't just blanks more.
+ * The place after the additional blanks that a line has at a place, compared with another line; null if the difference
+ * isn't only blanks.
  * @param {string[]} one
  * @param {string[]} two
  * @param {number} from
@@ -46,7 +47,7 @@ function onlyBlanks(one, two, from) {
 }
 
 /**
- * How many characters at the end of two lines are the same, behind a place.
+ * How many characters at the ends of two lines are the same, after a place.
  * @param {string[]} one
  * @param {string[]} two
  * @param {number} from
@@ -59,7 +60,7 @@ function sameEnd(one, two, from) {
 }
 
 /**
- * A line parted where it differs first from another: the part that both begin with, the one that differs, and the rest.
+ * A line split where it first differs from another: the part that both begin with, the part that differs, and the rest.
  * @param {string} line
  * @param {string} other
  */
@@ -110,9 +111,9 @@ function drawn(text) {
 }
 
 /**
- * Shows a line of each output, or none.
+ * Shows a line of each output, or nothing.
  * @param {Difference | null} difference
- * @param {string} [input] the one that the script had, where it isn't that of the box
+ * @param {string} [input] the input that the script had, if it isn't that of the box
  */
 export function showDifference(difference, input = undefined) {
     find('difference').hidden = !difference;

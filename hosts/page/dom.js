@@ -19,7 +19,7 @@ export function find(id) {
 }
 
 /**
- * The whole number of an input field, or null where it is none from 1 to so many.
+ * The whole number in an input field, or null if it isn't from 1 to a maximum.
  * @param {string} id
  * @param {number} most
  */
@@ -74,7 +74,7 @@ export function withBlanks(text) {
 }
 
 /**
- * The nodes of a text in which code stands between grave accents, and what is strong between two asterisks.
+ * The nodes of a text in which code is between grave accents, and strong text between double asterisks.
  * @param {string} text
  */
 export function marked(text) {
@@ -111,7 +111,7 @@ export function mark(kind, shown, said, code) {
 /**
  * The nodes of a text, its parentheses in the colours of their depths.
  * @param {string} text
- * @param {number} open how many calls are open in front of it
+ * @param {number} open how many calls are open before it
  */
 export function coloured(text, open) {
     return byDepth(text, open).map(({ text: part, depth }) => (depth

@@ -70,8 +70,8 @@ export class Exercises {
     }
 
     /**
-     * Says whether a script prints what the exercise wants, with other inputs too and in the way that is asked for, and
-     * where it doesn't.
+     * Says whether a script prints what the exercise wants, also with other inputs and in the way that the exercise
+     * asks for, and if not, where it differs.
      * @param {string} script
      * @param {string} output what its run printed
      * @param {string} fate how that ended
@@ -111,7 +111,7 @@ export class Exercises {
         showDifference(difference, input);
     }
 
-    /** Says nothing of a run any more. */
+    /** Removes the message about a run. */
     forgetVerdict() {
         this.trying.abort();
         this.trying = new AbortController();

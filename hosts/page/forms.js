@@ -27,20 +27,27 @@ function gap(ordinal) {
 }
 
 /**
- * The nodes of a part of a form's body, with its gaps and its pointer.
+ * The nodes of a part of a form's body, with its gaps, its pointer, and the mark on what is scanned now.
  * @param {Uint32Array} items
  * @param {number} pointer its place in this part, or one outside
+ * @param {{from: number, to: number} | null} here
  */
-function bodyNodes(items, pointer) {
-    const here = element('span', 'pointer', element('span', 'unseen', ' pointer '));
+function bodyNodes(items, pointer, here) {
+    const pointed = element('span', 'pointer', element('span', 'unseen', ' pointer '));
+    const scanned = element('b', 'here');
+    const stops = here ? [pointer, here.from, here.to] : [pointer];
     /** @type {Node[]} */
     const inside = [];
-    for (const piece of piecesOf(items, [pointer])) {
-        if (piece.at === pointer) inside.push(here);
-        if (piece.kind === 'mark') inside.push(gap(piece.code - 255));
-        else inside.push(...nodes([piece]));
+    for (const piece of piecesOf(items, stops)) {
+        if (piece.at === pointer) inside.push(pointed);
+        const drawn = piece.kind === 'mark' ? [gap(piece.code - 255)] : nodes([piece]);
+        if (!here || piece.at < here.from || piece.at >= here.to) inside.push(...drawn);
+        else {
+            if (!scanned.firstChild) inside.push(scanned);
+            scanned.append(...drawn);
+        }
     }
-    if (pointer === items.length) inside.push(here);
+    if (pointer === items.length) inside.push(pointed);
     return inside;
 }
 
@@ -80,6 +87,8 @@ export class FormsView {
         this.from = 0;
         /** Whether all of them are drawn, as on paper. */
         this.isWhole = false;
+        /** @type {{place: number, from: number, to: number} | null} what is scanned now of a form's body */
+        this.here = null;
         /** @type {Map<number, number>} of which place so many items are shown, where they were asked for */
         this.asked = new Map();
         find('forms-before').addEventListener('click', () => this.turn(-MOST_SHOWN));
@@ -100,7 +109,7 @@ export class FormsView {
     show(forms, changed) {
         const isKnown = forms === this.forms && !changed.size && !this.changed.size;
         if (isKnown && this.list.firstChild) return;
-        [this.forms, this.changed] = [forms, changed];
+        [this.forms, this.changed, this.here] = [forms, changed, null];
         this.asked.clear();
         const last = Math.max(-1, ...changed);
         if (last >= 0 && (last < this.from || last >= this.from + MOST_SHOWN)) {
@@ -109,6 +118,35 @@ export class FormsView {
         this.draw();
         const first = this.list.querySelector('.changed');
         if (first) reveal(this.list, first);
+    }
+
+    /**
+     * Marks what is scanned now, if it was written in a form's body, and removes the earlier mark.
+     * @param {{place: number, from: number, to: number} | null} here
+     */
+    mark(here) {
+        const before = this.here;
+        this.here = here;
+        if (here && (here.place < this.from || here.place >= this.from + MOST_SHOWN)) {
+            this.from = Math.floor(here.place / MOST_SHOWN) * MOST_SHOWN;
+            this.draw();
+        } else for (const place of new Set([before?.place, here?.place])) this.drawBody(place);
+        if (here) window.requestAnimationFrame(() => this.revealHere());
+    }
+
+    /** Scrolls to what is scanned now, when the browser lays the page out anyway. */
+    revealHere() {
+        const marked = this.list.querySelector('.here');
+        if (marked instanceof HTMLElement) reveal(this.list, marked);
+    }
+
+    /**
+     * Draws the body of a form again, if it is shown.
+     * @param {number | undefined} place
+     */
+    drawBody(place) {
+        const drawn = this.list.querySelectorAll('dd')[place - (this.isWhole ? 0 : this.from)];
+        drawn?.replaceChildren(...this.body(this.forms[place], place));
     }
 
     /** @param {number} by how many forms to go on, or back */
@@ -153,25 +191,27 @@ export class FormsView {
      * @param {StoredForm} form
      * @param {number} place
      */
-    entry({ name, items, pointer }, place) {
+    entry(form, place) {
+        const { name, items, pointer } = form;
         const where = `pointer at ${counted(pointer)} of ${counted(items.length)}`;
         const shown = name.length ? nodesOf(name) : [element('span', 'nothing', 'null name')];
         const kind = this.changed.has(place) ? 'changed' : '';
         return [
             element('dt', kind, ...shown, ' ', element('small', '', where)),
-            element('dd', kind, ...this.body(items, pointer, place)),
+            element('dd', kind, ...this.body(form, place)),
         ];
     }
 
     /**
-     * The body of a form: where it is long, the part around its pointer, and buttons for the rest.
-     * @param {Uint32Array} items
-     * @param {number} pointer
+     * The body of a form: if it is long, the part around what is scanned of it or around its pointer, and buttons for
+     * the rest.
+     * @param {StoredForm} form
      * @param {number} place
      */
-    body(items, pointer, place) {
+    body({ items, pointer }, place) {
+        const here = this.here?.place === place ? this.here : null;
         const most = this.isWhole ? Infinity : this.asked.get(place) ?? MOST_ITEMS;
-        const from = Math.max(0, Math.min(pointer - most / 2, items.length - most));
+        const from = Math.max(0, Math.min((here?.from ?? pointer) - most / 2, items.length - most));
         const to = Math.min(items.length, from + most);
         const more = (/** @type {number} */ count) => button(`… ${several(count, 'item')} more`, () => {
             this.asked.set(place, most * 8);
@@ -180,7 +220,8 @@ export class FormsView {
         });
         return [
             ...(from ? [more(from), ' '] : []),
-            ...bodyNodes(items.subarray(from, to), pointer - from),
+            ...bodyNodes(items.subarray(from, to), pointer - from,
+                here && { from: here.from - from, to: here.to - from }),
             ...(to < items.length ? [' ', more(items.length - to)] : []),
         ];
     }

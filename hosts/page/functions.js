@@ -1,6 +1,5 @@
 /**
- * What each function does with its arguments, in words. What a call finds, and what it comes to, is asked of the
- * engine.
+ * Says in words what each function does with its arguments. The engine gives what a call finds and what its result is.
  * @module
  */
 
@@ -31,7 +30,7 @@ function form(name) {
 }
 
 /**
- * A list in words, of which the front stands for the rest where it is long.
+ * A list in words, which is cut if it is long.
  * @param {string[]} words
  */
 function listed(words) {
@@ -48,7 +47,7 @@ function formNamed(forms, name) {
     return forms.find((each) => isSameRow(each.name, name)) ?? null;
 }
 
-/** A call that the next step performs: its arguments, the forms that it finds, and what it comes to. */
+/** A call that the next step performs: its arguments, the forms that it finds, and its result. */
 class Doing {
     /**
      * @param {import('./history.js').History} history
@@ -64,14 +63,14 @@ class Doing {
     }
 
     /**
-     * An argument as a line; the first one behind the name is 1.
+     * An argument as a line; the first one after the name is number 1.
      * @param {number} which
      */
     word(which) {
         return this.words[which] ?? '';
     }
 
-    /** The arguments behind the first one, as lines. */
+    /** The arguments after the first one, as lines. */
     get further() {
         return this.words.slice(2, MOST_ARGUMENTS);
     }
@@ -81,13 +80,13 @@ class Doing {
         return formNamed(this.forms, this.machine.argument(1));
     }
 
-    /** The same form as it is behind the step, or null where that isn't known. */
+    /** The same form as it is after the step, or null if that isn't known. */
     get later() {
         return this.outcome && formNamed(this.outcome.session.forms(), this.machine.argument(1));
     }
 
     /**
-     * Whether the value is an argument; null where that isn't known.
+     * Whether the value is an argument; null if that isn't known.
      * @param {number} which
      */
     isValue(which) {
@@ -100,7 +99,7 @@ class Doing {
 
     /** That the value is the default one, in words. */
     byDefault() {
-        const text = this.word(entry(this.words[0]).defaultArgument);
+        const text = this.word(functionNamed(this.words[0]).defaultArgument);
         return `so the value is the default, ${text ? quoted(text) : 'which is null'}.`;
     }
 }
@@ -123,7 +122,7 @@ function ofForm(says, none = 'so the value is null and nothing changes') {
 
 /**
  * Whether there is no more input, so that a call that reads ends the run.
- * @param {string} words what it reads, where there is more
+ * @param {string} words what it reads, if there is more input
  * @returns {Says}
  */
 function reads(words) {
@@ -289,8 +288,8 @@ function greaterWords(doing) {
 }
 
 /**
- * Whether the value of a call that computes is its default; null where that isn't known: a result ends with a digit,
- * and the default may be the same.
+ * Whether the value of a call that computes is its default; null if that isn't known, because a result ends with a
+ * digit and the default may be the same text.
  * @param {Doing} doing
  */
 function isByDefault(doing) {
@@ -318,7 +317,7 @@ function computed(verb, rest) {
 }
 
 /**
- * The sentence on a call of each function. Of a function that has none here the engine's own is said.
+ * The sentence on a call of each function. For a function without a sentence here the engine's sentence is used.
  * @type {Record<string, Says>}
  */
 const SENTENCES = {
@@ -355,7 +354,7 @@ const SENTENCES = {
 };
 
 /**
- * The functions of the language by name, as the engine tells of them.
+ * The functions of the language by name, as the engine describes them.
  * @type {Map<string, import('../js/trac.mjs').LanguageFunction>}
  */
 const table = new Map();
@@ -366,14 +365,14 @@ const table = new Map();
  */
 export function learnFunctions(machine) {
     if (table.size) return;
-    for (const each of machine.functions()) table.set(each.name, each);
+    for (const each of machine.language()) table.set(each.name, each);
 }
 
 /**
  * The function of a name, of letters of either case.
  * @param {string} name
  */
-function entry(name) {
+export function functionNamed(name) {
     return /^[\x21-\x7e]+$/.test(name) ? table.get(name.toLowerCase()) ?? null : null;
 }
 
@@ -382,17 +381,17 @@ function entry(name) {
  * @param {string} name
  */
 export function changesForms(name) {
-    return entry(name)?.changesForms ?? false;
+    return functionNamed(name)?.changesForms ?? false;
 }
 
 /**
- * The name of a call in a sentence: one that is no function stands in quotes.
+ * The name of a call in a sentence: a name that is no function is quoted.
  * @param {string} name
- * @param {string} none what is said where there is no name
+ * @param {string} none the words to use if there is no name
  */
 export function nameWords(name, none) {
     if (!name) return none;
-    return entry(name) ? name : quoted(name);
+    return functionNamed(name) ? name : quoted(name);
 }
 
 /**
@@ -402,7 +401,7 @@ export function nameWords(name, none) {
  */
 export function callWords(history, call) {
     const [name] = call.words;
-    const known = entry(name);
+    const known = functionNamed(name);
     if (known) {
         const says = Object.hasOwn(SENTENCES, known.name) ? SENTENCES[known.name] : () => known.sentence;
         return says(new Doing(history, call));

@@ -9,7 +9,7 @@ import { element, find, marked } from './dom.js';
 /** @typedef {import('./lessons.js').Part} Part */
 
 /**
- * A note as a text: its first word, and what stands behind it.
+ * A note as a text: its first word, and the words after it.
  * @param {import('./lessons.js').Cue} cue
  */
 function cueNodes({ kind, words }) {
@@ -31,13 +31,13 @@ export class Guide {
     /**
      * @param {Part[]} parts
      * @param {(part: Part) => void} onPart called with the part that is gone to
-     * @param {() => void} onAddress called where the address is another
+     * @param {() => void} onAddress called when the address has changed
      */
     constructor(parts, onPart, onAddress) {
         this.parts = parts;
         this.onPart = onPart;
         this.onAddress = onAddress;
-        /** The part that is shown, by its place; -1 where the lesson is closed. */
+        /** The part that is shown, by its place; -1 if the lesson is closed. */
         this.at = -1;
         /** @type {Window | null} */
         this.notes = null;
@@ -65,14 +65,14 @@ export class Guide {
         return Number(new URLSearchParams(window.location.search).get('lesson') ?? 0) - 1;
     }
 
-    /** Shows the part whose script was chosen among the examples, where the lesson is open. */
+    /** Shows the part whose script was chosen among the examples, if the lesson is open. */
     follow() {
         const isPart = this.parts[this.chosen].name === find('example').value;
         if (this.at >= 0 && isPart) this.show(this.chosen);
     }
 
     /**
-     * Goes on by so many parts, or back, unless there is none.
+     * Goes on, or back, by a number of parts, unless there is no such part.
      * @param {number} by
      */
     turn(by) {
@@ -89,7 +89,7 @@ export class Guide {
     }
 
     /**
-     * Shows a part, whatever stands in the box.
+     * Shows a part, whatever is in the box.
      * @param {number} at
      */
     show(at) {
@@ -140,7 +140,14 @@ export class Guide {
     }
 
     /**
-     * Has the address name a part, so that a reload comes back to it, or none.
+     * Whether the lesson was open before the page was reloaded, even if the address has contained a script since then.
+     */
+    static get wasOpen() {
+        return window.location.hash ? Boolean(window.history.state?.lesson) : true;
+    }
+
+    /**
+     * Puts a part into the address, so that a reload shows it again, or removes it.
      * @param {string | null} part
      */
     nameInAddress(part) {
@@ -148,7 +155,7 @@ export class Guide {
         if (part) place.searchParams.set('lesson', part);
         else place.searchParams.delete('lesson');
         place.hash = '';
-        window.history.replaceState(null, '', place);
+        window.history.replaceState({ lesson: part }, '', place);
         this.onAddress();
     }
 

@@ -1,7 +1,6 @@
 /**
- * The steps of one run, each of which can be gone to. A run is wholly determined by its script, so a
- * step is reached from the nearest machine that was kept, by making the steps from there again.
- * Nothing here touches the document.
+ * The steps of one run, and how to go to each of them. A run is completely determined by its script, so a step is
+ * reached from the nearest saved machine by making the steps from there again. Nothing here uses the document.
  * @module
  */
 
@@ -11,6 +10,7 @@ import { changesForms, learnFunctions } from './functions.js';
 import {
     Kept, Pace, SLICE, STEPS_OF_READING, Walker, pause,
 } from './machines.js';
+import { Origins } from './origins.js';
 
 /** Of how many steps at most the calls are listed. Later ones are looked for when they are wanted. */
 export const MOST_LISTED = 5000000;
@@ -96,7 +96,7 @@ class Strings {
     }
 }
 
-/** What was printed up to which step, told from time to time. */
+/** What was printed up to which step, recorded from time to time. */
 class Printings {
     constructor() {
         this.steps = new Numbers();
@@ -117,7 +117,7 @@ class Printings {
     }
 
     /**
-     * A step up to which no more than so many bytes are printed, as far on as is known.
+     * The latest known step up to which at most a given number of bytes are printed.
      * @param {number} printed
      */
     before(printed) {
@@ -130,9 +130,9 @@ class Printings {
  * A call that a step performs.
  * @typedef {object} Call
  * @property {number} mark its mark in the neutral string
- * @property {number} place where that stands
- * @property {number} given how many arguments it has behind the name
- * @property {string[]} words the first of its arguments, the name of the function in front
+ * @property {number} place the place of the mark
+ * @property {number} given the number of arguments after the name
+ * @property {string[]} words the name of the function, and then the first of its arguments
  * @property {number} active how many characters the active string has
  */
 
@@ -144,40 +144,43 @@ class Printings {
 /**
  * What a call gave.
  * @typedef {object} Value
- * @property {boolean} isActive whether it stands in front of the active string, to be scanned again
+ * @property {boolean} isActive whether it is at the front of the active string, to be scanned again
  * @property {number} length
  * @property {Uint32Array} front its codes, as many as a line shows
- * @property {string[]} words the first arguments of the call, the name of the function in front
+ * @property {string[]} words the name of the function, and then the first arguments of the call
  */
 
 /**
- * What a step comes to.
+ * The result of a step.
  * @typedef {object} Outcome
- * @property {string} fate of the run behind it
+ * @property {string} fate of the run after it
  * @property {Value | null} value
- * @property {Session} session the machine behind it, until another outcome is asked for
+ * @property {Session} session the machine after it, until the result of another step is requested
  */
 
 /** A run of a script, and the step that is looked at. */
 export class History {
     /**
-     * @param {Uint8Array} input the script and what stands behind it
+     * @param {Uint8Array} input the script and the input after it
      * @param {{cells: number, steps: number}} limits
      */
     static async of(input, limits) {
         const walker = async () => new Walker(await Session.open(limits), input);
-        const peeker = limits.cells > MOST_PEEKED ? null : await walker();
+        const isSmall = limits.cells <= MOST_PEEKED;
+        const peeker = isSmall ? await walker() : null;
         const shown = await walker();
         learnFunctions(shown.session);
-        return new History(shown, await walker(), peeker, limits);
+        const made = new History(shown, await walker(), peeker, limits);
+        if (isSmall) made.origins = new Origins(made, await walker());
+        return made;
     }
 
     /**
      * Use `History.of`.
      * @param {Walker} shown
      * @param {Walker} lister
-     * @param {Walker | null} peeker the one that is a step ahead; none where the block is so large that this
-     * takes long
+     * @param {Walker | null} peeker the walker that is one step ahead; none if the block is so large that this takes
+     * long
      * @param {{cells: number, steps: number}} limits
      */
     constructor(shown, lister, peeker, limits) {
@@ -185,6 +188,11 @@ export class History {
         this.lister = lister;
         this.peeker = peeker;
         this.limits = limits;
+        /**
+         * Where what is scanned was written; null if the block is so large that another machine takes long.
+         * @type {Origins | null}
+         */
+        this.origins = null;
         this.pace = new Pace();
         /** The steps after which a call is performed by the next step, as far as they are listed. */
         this.calls = new Numbers();
@@ -225,7 +233,7 @@ export class History {
     /**
      * Runs to the end, or until it is stopped.
      * @param {AbortSignal} signal
-     * @param {(step: number) => void} onStep told of the step from time to time
+     * @param {(step: number) => void} onStep called with the step from time to time
      */
     async run(signal, onStep) {
         const { shown } = this;
@@ -254,7 +262,7 @@ export class History {
     /**
      * Lists the calls.
      * @param {AbortSignal} signal
-     * @param {() => void} onMore told from time to time that there are more
+     * @param {() => void} onMore called from time to time when there are more
      */
     async list(signal, onMore) {
         const last = Math.min(this.end.step, MOST_LISTED);

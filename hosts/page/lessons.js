@@ -1,5 +1,5 @@
 /**
- * What there is to try: the examples, in the order of a lesson, the exercises, and the table of functions.
+ * The scripts to try: the examples, in the order of a lesson, the exercises, and the table of functions.
  * @module
  */
 
@@ -79,7 +79,7 @@ export class Lessons {
     }
 
     /**
-     * Takes note of the example that stands in the boxes, if one does.
+     * Notes which example is in the boxes, if one is.
      * @param {{script: string, input: string}} texts
      */
     recognise({ script, input }) {
@@ -88,7 +88,7 @@ export class Lessons {
         find('says').textContent = known?.says ?? '';
     }
 
-    /** Takes note that the script is none of the examples any more. */
+    /** Notes that the script is no longer one of the examples. */
     leave() {
         find('example').value = '';
         find('says').textContent = '';

@@ -8,11 +8,11 @@ import { several } from './codes.js';
 import { element, find } from './dom.js';
 
 const LONG_LINK = 8000;
-/** How high the steps are within another page, and what is added for each other part of the page, in pixels. */
+/** The height of the steps within another page, and of each other part of the page, in pixels. */
 const HEIGHT = 480;
 /** @type {Record<string, number>} */
 const HEIGHTS = { script: 165, output: 40, play: 250 };
-/** What is to be seen beside the step, and how that is found and set. */
+/** The parts that are shown beside the step, and how to find and set whether they are. */
 const VIEW = {
     tree: { id: 'tree-part', name: 'open', usual: false },
     each: { id: 'fold', name: 'checked', usual: true },
@@ -39,10 +39,10 @@ function unpacked(letters) {
 }
 
 /**
- * What the address carries: texts, limits, and the step that is to be shown and how, each where it is there.
- * @returns {{texts: {script: string, input: string}, limits: Record<string, string>, step: number | null,
- * view: string | null} | null} null where it carries no script
- * @throws {Error} where the script can't be read
+ * The content of the address: texts, limits, the step to show and how to show it, each if it is there.
+ * @returns {{texts: {script: string, input: string}, limits: Record<string, string>, step: number | null, view: string
+ * | null} | null} null if it contains no script
+ * @throws {Error} if the script can't be read
  */
 export function readLink() {
     const words = new URLSearchParams(window.location.hash.slice(1));
@@ -57,14 +57,16 @@ export function readLink() {
     return { texts: { script, input }, limits, step: step === null ? null : Number(step), view: words.get('view') };
 }
 
-/** What is to be seen beside the step now, as a link says it: what isn't as usual. */
+/**
+ * The parts that are shown beside the step now, in the form that a link uses: only those that differ from the default.
+ */
 function viewNow() {
     return Object.entries(VIEW).filter(([, { id, name, usual }]) => find(id)[name] !== usual)
         .map(([word]) => word).join('-');
 }
 
 /**
- * Has the page show what a link says.
+ * Makes the page show what a link says.
  * @param {string} view
  */
 export function setView(view) {
@@ -90,7 +92,7 @@ function carried({ script, input }, step) {
 }
 
 /**
- * Copies the code that shows the steps of a script within another page, with the parts of this one that are chosen.
+ * Copies the code that shows the steps of a script within another page, with the chosen parts of this page.
  * @param {{script: string, input: string}} texts
  * @param {number | null} step
  * @returns {Promise<string>} what is to be said of it
@@ -119,7 +121,7 @@ export async function embedCode(texts, step) {
  */
 export async function makeLink(texts, step) {
     const words = carried(texts, step);
-    window.history.replaceState(null, '', `#${words}`);
+    window.history.replaceState(window.history.state, '', `#${words}`);
     const { href } = window.location;
     const carries = step === null ? 'It carries the script.' : 'It carries the script and the step.';
     const long = href.length > LONG_LINK

@@ -8,9 +8,9 @@ const STILL = 300;
 /** How many steps a script makes at most that is run while one types. */
 export const MOST_LIVE = 100000;
 
-/** What is done when what is typed stands still. */
+/** What to do when the user pauses while typing. */
 export class Live {
-    /** @param {(signal: AbortSignal) => void} onStill called then; the signal tells when more is typed */
+    /** @param {(signal: AbortSignal) => void} onStill called then; the signal is aborted when more is typed */
     constructor(onStill) {
         this.onStill = onStill;
         this.leaving = new AbortController();

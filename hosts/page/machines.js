@@ -141,14 +141,14 @@ export class Walker {
 
     /** All that it takes to come back here, and how many bytes that is. */
     save() {
-        const machine = this.session.save();
+        const machine = this.session.snapshot();
         const bytes = (machine.pages ?? []).reduce((sum, { words }) => sum + words.byteLength, 0);
         return { state: { ...this.state }, machine, bytes };
     }
 
     /** @param {ReturnType<Walker['save']>} saved */
     restore({ state, machine }) {
-        this.session.restore(machine);
+        this.session.rewind(machine);
         this.state = { ...state };
     }
 }

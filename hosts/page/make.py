@@ -1,5 +1,5 @@
-"""Makes the page one file: make.py MODULE VERSION PAGE. The module for browsers, its JavaScript, the
-page's own, the examples and the exercises stand inside; a policy in its head forbids every connection."""
+"""Makes the page one file: make.py MODULE VERSION PAGE. The file contains the module for browsers, its JavaScript, the
+page's own code, the examples and the exercises; a policy in its head forbids every connection."""
 import base64
 import glob
 import gzip
@@ -11,11 +11,12 @@ import sys
 
 FOLDER = os.path.dirname(os.path.abspath(__file__))
 TOP = os.path.dirname(os.path.dirname(FOLDER))
-# Each file's imports name only files that stand before it here.
+# Each file imports only from files before it in this list.
 CODE = ['hosts/js/trac.mjs'] + [f'hosts/page/{name}.js' for name in (
-    'codes', 'functions', 'machines', 'history', 'dom', 'block', 'strings', 'forms', 'output', 'boxes', 'search',
-    'runs', 'view', 'stepper', 'tree', 'trace', 'trial', 'difference', 'exercises', 'lessons', 'guide', 'links',
-    'warnings', 'live', 'page')]
+    'codes', 'functions', 'machines', 'origins', 'history', 'dom', 'block', 'strings', 'forms', 'output', 'boxes',
+    'search', 'runs', 'view', 'places', 'stepper', 'tree', 'trace', 'trial', 'difference', 'exercises', 'lessons',
+    'guide', 'links', 'warnings', 'live', 'page')]
+COMMENT = re.compile(r'^ */\*\*.*?\*/\n', re.MULTILINE | re.DOTALL)
 IMPORT = re.compile(r"^import [^;]*? from '\.{1,2}/[^']*';\n", re.MULTILINE | re.DOTALL)
 NAME = re.compile(r'^(?:export )?(?:async )?(?:function\*?|class|const|let) (\w+)', re.MULTILINE)
 PART = re.compile('@([A-Z]+)@')
@@ -27,8 +28,9 @@ def read(*path):
 
 
 def code(version):
-    """The JavaScript as one module: what is imported stands in front of what imports it."""
-    text = '\n'.join(IMPORT.sub('', read(name)) for name in CODE)
+    """The JavaScript as one module: imported code comes before the code that imports it. The docstrings, which are a
+    quarter of the sources, are left out."""
+    text = '\n'.join(COMMENT.sub('', IMPORT.sub('', read(name))) for name in CODE)
     if re.search(r'</script|<!--', text, re.IGNORECASE):
         raise SystemExit('make.py: the code would end its own element')
     names = NAME.findall(text)
@@ -39,15 +41,15 @@ def code(version):
 
 
 def examples():
-    """The examples, the larger scripts behind those of the lesson."""
+    """The examples, which come after the scripts of the lesson."""
     for path in sorted(glob.glob(os.path.join(TOP, 'examples', '*.trac'))):
         with open(path, encoding='utf-8', newline='') as file:
             yield {'name': os.path.basename(path)[:-5], 'script': file.read()}
 
 
 def cues(notes):
-    """What a lecturer shows, asks and has tried: of each note its first word and what stands behind it. An answer
-    behind a question is a note of its own."""
+    """What a lecturer shows, asks and lets the class try: for each note its first word and the text after it. The
+    answer to a question is a separate note."""
     for kind, text in re.findall(r'^- \*(\w+)\*(.*?)(?=^- |\Z)', notes, re.MULTILINE | re.DOTALL):
         words = re.sub(r'\[([^]]*)\]\([^)]*\)', r'\1', ' '.join(text.split()))
         end = words.rfind('? ') + 1 if kind == 'Ask' else 0
@@ -57,7 +59,8 @@ def cues(notes):
 
 
 def lesson():
-    """The parts of docs/LESSON.md: each with its sentence, its script, what that prints, and the lecturer's notes."""
+    """The parts of docs/LESSON.md: each with its sentence, its script, the script's output, and the lecturer's
+    notes."""
     for name, says, script, output, notes in re.findall(
             r'^## (\d+\. [^\n]*)\n+([^`]*?)\n```trac\n(.*?)\n```\n```output\n(.*?)\n```\n(.*?)(?=^## |\Z)',
             read('docs', 'LESSON.md'), re.MULTILINE | re.DOTALL):
@@ -66,8 +69,8 @@ def lesson():
 
 
 def cases(number):
-    """What examples/exercises/cases.md has for an exercise: further cases, each with its input or its swap and with
-    what is then printed, and the tests of the way."""
+    """The entries of an exercise in examples/exercises/cases.md: further cases, each with its input or its swap and
+    with the expected output, and the tests of how a script makes its output."""
     section = re.search(rf'^### {number}\. .*?(?=^### |\Z)', read('examples', 'exercises', 'cases.md'),
                         re.MULTILINE | re.DOTALL)
     found, case = {'cases': []}, {}
@@ -89,8 +92,8 @@ def numbered(heading):
 
 
 def exercises():
-    """The exercises of docs/EXERCISES.md: each with its words, the script to begin with, its input, what is to be
-    printed, a hint, a solution and why that is so, and what `examples/exercises/check` tries."""
+    """The exercises of docs/EXERCISES.md: each with its text, the script to begin with, its input, the expected output,
+    a hint, a solution with the reasons for it, and what `examples/exercises/check` tries."""
     sections = re.findall(r'^### (\d+\. [^\n]*)\n(.*?)(?=^##)', read('docs', 'EXERCISES.md') + '##',
                           re.MULTILINE | re.DOTALL)
     for (name, text), hint, why in zip(sections, numbered('Hints'), numbered('Why the solutions are so')):
@@ -117,7 +120,7 @@ def functions():
 
 
 def lessons():
-    """All that there is to try, as JSON that can stand in an element."""
+    """Everything that there is to try, as JSON that can be in an element."""
     found = {'lesson': list(lesson()), 'examples': list(examples()), 'exercises': list(exercises()),
              'functions': list(functions())}
     return json.dumps(found, ensure_ascii=False).replace('<', '\\u003c')

@@ -1,6 +1,6 @@
 /**
- * Draws the output up to the step that is looked at, or where it is asked for all of it: the part around what was
- * printed last, by pieces that are decoded once.
+ * Draws the output up to the current step, or all of it if the user asks for that: the part around what was printed
+ * last, in pieces that are decoded once.
  * @module
  */
 
@@ -51,7 +51,7 @@ export class OutputView {
     }
 
     /**
-     * Where a piece ends: not within a character.
+     * The end of a piece, which isn't within a character.
      * @param {number} index
      */
     endOf(index) {
@@ -99,7 +99,7 @@ export class OutputView {
     }
 
     /**
-     * Text nodes of a part, which is parted where the pieces are.
+     * Text nodes of a part, one for each piece.
      * @param {number} from
      * @param {number} to
      */

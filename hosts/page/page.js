@@ -1,5 +1,5 @@
 /**
- * The page: what it is doing, and what its controls do.
+ * The page: its state, and what its controls do.
  * @module
  */
 
@@ -14,8 +14,9 @@ import {
 } from './links.js';
 import { Live, MOST_LIVE } from './live.js';
 import { pause } from './machines.js';
+import { Places } from './places.js';
 import {
-    amountWords, doneIn, fateWords, makeRun, placeWords, sameStep, stringPart,
+    amountWords, doneIn, fateWords, makeRun, sameStep, stringWords,
 } from './runs.js';
 import { Stepper } from './stepper.js';
 import { traceOf } from './trace.js';
@@ -26,7 +27,7 @@ import { Warnings } from './warnings.js';
 const MOST_STEPS = 1000000000000;
 /** How many steps a script makes that comes by a link, before anyone asks for its run. */
 const MOST_UNASKED = 10000000;
-/** The cells of the largest block that is made anew while one types. */
+/** The cells of the largest block that is made again while the user types. */
 const MOST_LIVE_CELLS = 2 ** 20;
 const LOOK = 'trac-t64-look';
 /** @typedef {import('./runs.js').Run} Run */
@@ -38,7 +39,7 @@ const LOOK = 'trac-t64-look';
  */
 
 /**
- * Says something beside the script.
+ * Shows a message beside the script.
  * @param {string} words
  */
 function tell(words) {
@@ -46,7 +47,7 @@ function tell(words) {
 }
 
 /**
- * A limit of an input field, or null where it is none in its range, which is said then.
+ * The limit in an input field, or null if it isn't in its range; then a message says so.
  * @param {string} id
  * @param {number} most
  */
@@ -61,7 +62,7 @@ function numberIn(id, most) {
 }
 
 /**
- * The limits of the fields, or null where one is out of its range.
+ * The limits of the fields, or null if one is out of its range.
  * @param {(id: string, most: number) => number | null} read
  */
 function limitsIn(read) {
@@ -89,7 +90,7 @@ function closeAround(target) {
     part.querySelector('summary').focus();
 }
 
-/** Unpacks the engine that stands in the page. */
+/** Unpacks the engine that the page contains. */
 async function unpackEngine() {
     const packed = Uint8Array.from(atob(find('engine').textContent), (letter) => letter.charCodeAt(0));
     const { DecompressionStream: Unpacking } = /** @type {any} */ (window);
@@ -102,7 +103,6 @@ class Page {
     constructor() {
         /** @type {State} */
         this.state = { kind: 'idle' };
-        this.marked = '';
         /**
          * Done when the engine is unpacked.
          * @type {Promise<void> | undefined}
@@ -112,6 +112,8 @@ class Page {
         this.lessons = new Lessons((texts) => this.boxes.fill(texts));
         this.guide = new Guide(this.lessons.lesson, ({ name }) => this.openPart(name), () => this.boxes.save());
         this.view = new View();
+        this.places = new Places(this.boxes, this.view.forms);
+        this.places.onFault = () => this.run && this.showFate(this.run);
         this.stepper = new Stepper(this.view);
         this.tree = new CallTree((step) => this.stepper.go(step));
         this.warnings = new Warnings(
@@ -149,7 +151,7 @@ class Page {
     outdate() {
         find('place').hidden = true;
         this.warnings.outdate();
-        this.marked = '';
+        this.places.forget();
         this.live.stop();
         if (this.state.kind === 'shown') this.become({ kind: 'stale', run: this.state.run });
         else if (find('output').firstChild) find('printed').classList.add('stale');
@@ -204,7 +206,7 @@ class Page {
         this.stepper.close();
         this.tree.close();
         this.warnings.close();
-        this.boxes.mark(null);
+        this.places.close();
         this.lessons.exercises.forgetVerdict();
         find('place').hidden = true;
         find('fate').className = '';
@@ -284,7 +286,7 @@ class Page {
         this.become({ kind: isSame ? 'shown' : 'stale', run });
         this.view.open(run.history, run.output);
         this.tree.open(run.history, run.input);
-        this.marked = '';
+        this.places.forget();
         this.stepper.open(run.history, step);
         if (isTyped) find('fate').setAttribute('aria-live', 'off');
         this.showFate(run);
@@ -335,38 +337,25 @@ class Page {
         const { fate } = run.history.end;
         find('fate').className = isFault(fate) ? 'fault' : '';
         find('fate').replaceChildren(fateWords(run.history), element('small', '', amountWords(run)));
-        const last = isFault(fate) ? placeWords(run) : '';
-        if (last) find('fate').append(element('small', '', last));
+        const last = isFault(fate) ? stringWords(run) : '';
+        for (const words of last ? [last, this.places.faultWords] : []) {
+            if (words) find('fate').append(element('small', '', words));
+        }
         find('place').hidden = !last || this.state.kind !== 'shown';
     }
 
     /** Shows what goes with the step that is reached. */
     showAround() {
-        this.showPlace();
+        this.places.show(this.run, this.state.kind === 'shown');
         this.tree.show();
     }
 
-    /** Marks the string that is being scanned in the boxes. */
-    showPlace() {
-        if (this.state.kind !== 'shown') return;
-        const { run } = this.state;
-        const { history } = run;
-        const isLast = history.step === history.end.step && isFault(history.end.fate);
-        const key = `${history.strings.at(history.step)?.from} ${isLast}`;
-        if (this.marked === key) return;
-        this.marked = key;
-        const part = stringPart(run, history.step);
-        this.boxes.mark(part && { ...part, isFault: isLast });
-    }
-
-    /** Puts the cursor where the string that was being scanned at a fault begins, and selects it. */
+    /** Goes to the step of a fault, and selects in the boxes what was being scanned there, or else its string. */
     selectPlace() {
         if (this.state.kind !== 'shown') return;
-        const { run } = this.state;
-        this.stepper.go(run.history.end.step);
-        const part = stringPart(run, run.history.end.step);
-        this.boxes.mark({ ...part, isFault: true });
-        this.boxes.select(part);
+        this.places.forget();
+        this.places.isSelecting = true;
+        this.stepper.go(this.state.run.history.end.step);
     }
 
     /**
@@ -537,7 +526,7 @@ class Page {
         const isPart = part in this.lessons.lesson;
         if (this.boxes.load()) {
             this.lessons.recognise(this.boxes.texts);
-            if (isPart && !window.location.hash) this.guide.show(part);
+            if (isPart && Guide.wasOpen) this.guide.show(part);
         } else if (!this.fromLink()) {
             if (isPart) this.guide.go(part);
             else this.lessons.choose(this.lessons.first);

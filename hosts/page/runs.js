@@ -34,7 +34,7 @@ const FATES = {
  */
 
 /**
- * The part of the texts that the string takes which is scanned at a step, without layout in front of it.
+ * The part of the texts with the string that is scanned at a step, without the layout before it.
  * @param {Run} run
  * @param {number} step
  */
@@ -48,28 +48,34 @@ export function stringPart({ history, input }, step) {
 }
 
 /**
- * Where the string begins that was being scanned when a run ended, in words.
- * @param {Run} run
+ * A place in the texts, in words.
+ * @param {{script: string, input: string}} texts
+ * @param {number} place in the script and the further input after it
  */
-export function placeWords(run) {
-    const part = stringPart(run, run.history.end.step);
-    if (!part) return '';
-    const { script, input } = run.texts;
-    const inScript = part.from < script.length;
-    const front = (script + input).slice(inScript ? 0 : script.length, part.from);
+export function placeWords({ script, input }, place) {
+    const isInScript = place < script.length;
+    const front = (script + input).slice(isInScript ? 0 : script.length, place);
     const line = front.split('\n').length;
     const column = [...front.slice(front.lastIndexOf('\n') + 1)].length + 1;
-    return `The string that was being scanned begins in line ${counted(line)}, column ${
-        counted(column)}${inScript ? '' : ' of the further input'}.`;
+    return `line ${counted(line)}, column ${counted(column)}${isInScript ? '' : ' of the further input'}`;
 }
 
 /**
- * Makes a run of texts, to its end or until it is stopped.
+ * The beginning of the string that was being scanned when a run ended, in words.
+ * @param {Run} run
+ */
+export function stringWords(run) {
+    const part = stringPart(run, run.history.end.step);
+    return part ? `The string that was being scanned begins in ${placeWords(run.texts, part.from)}.` : '';
+}
+
+/**
+ * Runs texts, to the end or until the run is stopped.
  * @param {{script: string, input: string}} texts
  * @param {{cells: number, steps: number}} limits
  * @param {AbortSignal} signal
  * @param {number} most after how many steps it is stopped
- * @param {(step: number) => void} [onStep] told of the step from time to time
+ * @param {(step: number) => void} [onStep] called with the step from time to time
  * @returns {Promise<Run>}
  */
 export async function makeRun(texts, limits, signal, most, onStep = () => {}) {
@@ -113,7 +119,7 @@ export function doneIn({ history, output }) {
 }
 
 /**
- * A step, where the same has been done up to it in a run as in another one; else null.
+ * A step, if the same was done up to it in two runs; otherwise null.
  * @param {number} step
  * @param {Done} done in the other one
  * @param {Run} run which goes to that step

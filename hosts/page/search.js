@@ -1,6 +1,6 @@
 /**
- * Looks for steps of a run from the one that is looked at. Each search goes in slices, and leaves the
- * machine where it stopped; it gives null where there is no such step, or where it was stopped.
+ * Searches for steps of a run, from the current one. Each search works in slices, and leaves the machine where it
+ * stopped; it gives null if there is no such step, or if it was stopped.
  * @module
  */
 
@@ -18,7 +18,7 @@ const MOST_AT_A_TIME = 2 ** 16;
  * Goes from call to call up to a step.
  * @param {History} history
  * @param {number} to
- * @param {(history: History) => boolean} isWanted asked where a call is performed by the next step
+ * @param {(history: History) => boolean} isWanted called if the next step performs a call
  * @param {AbortSignal} signal
  * @returns {Promise<number | null>} the step after which it was so
  */
@@ -38,7 +38,7 @@ async function alongCalls(history, to, isWanted, signal) {
 }
 
 /**
- * The next step that performs a call, behind the one that is looked at.
+ * The next step after the current one that performs a call.
  * @param {History} history
  * @param {(history: History) => boolean} isWanted
  * @param {AbortSignal} signal
@@ -63,7 +63,7 @@ async function goTo(history, step, signal) {
 }
 
 /**
- * The last step in front of one that performs a call: looked for in more and more steps before it.
+ * The last step before one that performs a call: the search goes back over more and more steps.
  * @param {History} history
  * @param {number} step
  * @param {AbortSignal} signal
@@ -97,7 +97,7 @@ export function nextNamed(history, name, signal) {
 }
 
 /**
- * The end of the call that is the innermost one when so many are open, unless the string is over before.
+ * The end of the call that is the innermost one at a given number of open calls, unless the string ends before.
  * @param {History} history
  * @param {number} depth
  * @param {AbortSignal} signal
@@ -111,7 +111,7 @@ async function endAt(history, depth, signal) {
 }
 
 /**
- * The end of the innermost call that is open, or where that is the next step, of the one around it.
+ * The end of the innermost open call, or, if that is the next step, of the call around it.
  * @param {History} history
  * @param {AbortSignal} signal
  */

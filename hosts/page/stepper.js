@@ -54,7 +54,7 @@ export class Stepper {
         this.searching = new AbortController();
         /** @type {number | undefined} */
         this.timer = undefined;
-        /** Called where another step is shown. */
+        /** Called when another step is shown. */
         this.onStep = () => {};
         /** @type {Record<string, () => void>} */
         this.moves = {

@@ -13,7 +13,7 @@ const MOST_IN_ROW = 1200;
 /** How many characters of the active string are shown. */
 export const MOST_ACTIVE = 2000;
 
-/** A part of a machine's neutral string, of which is read what is shown. */
+/** A part of a machine's neutral string. Only what is shown is read. */
 class Part {
     /**
      * @param {import('../js/trac.mjs').Session} machine
@@ -40,7 +40,7 @@ class Part {
 }
 
 /**
- * The nodes of a part, its middle left out where it is long. What the last call gave is its end.
+ * The nodes of a part, without its middle if it is long. The value of the last call is at its end.
  * @param {Part} part
  * @param {number} landed how many codes the last call gave
  */

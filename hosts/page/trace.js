@@ -24,10 +24,10 @@ function tracedStep(trace, input) {
 }
 
 /**
- * The lines of a run, from its first step on: as many as a file should have.
+ * The lines of a run, from its first step on, up to a limit for a file.
  * @param {Uint8Array} input
  * @param {{cells: number, steps: number}} limits
- * @param {import('./machines.js').Progress} end where the run ended, or was stopped
+ * @param {import('./machines.js').Progress} end the point where the run ended, or was stopped
  */
 export async function traceOf(input, limits, { step: last, fate: end }) {
     const session = await Session.open(limits);

@@ -16,8 +16,8 @@ const AROUND = 30;
  */
 
 /**
- * Calls in the order in which they are performed, as trees: those within the arguments of another, or
- * made by scanning them, lie in it.
+ * Calls in the order in which they are performed, as trees: a call contains the calls in its arguments, and those made
+ * by scanning these.
  * @param {Row[]} rows
  */
 function nested(rows) {
@@ -77,7 +77,7 @@ export class CallTree {
         find('tree').replaceChildren();
     }
 
-    /** Shows the calls around the step that is looked at, if they are to be seen. */
+    /** Shows the calls around the current step, if the tree is shown. */
     async show() {
         const { history } = this;
         if (!history || !find('tree-part').open) return;
@@ -163,7 +163,7 @@ export class CallTree {
         return element('li', '', label, ...(list.length ? [element('ul', '', ...list)] : []));
     }
 
-    /** Marks the last call that isn't behind the step that is looked at. */
+    /** Marks the last call that isn't after the current step. */
     showCurrent() {
         const { history } = this;
         if (!history) return;

@@ -1,6 +1,6 @@
 /**
- * Tries the script of an exercise as `examples/exercises/check` does: with other inputs, with other texts in it, and
- * for the way in which it prints what is wanted. Nothing here touches the document.
+ * Checks the script of an exercise as `examples/exercises/check` does: with other inputs, with other texts in it, and
+ * whether it makes the output in the way that the exercise asks for. Nothing here uses the document.
  * @module
  */
 
@@ -18,8 +18,8 @@ const FIRST_OF_LINES = 17;
 const GOOD_ENDS = new Set(['halted', 'input ended']);
 
 /**
- * What a case or a test comes to where the script fails it: what is said of it, the input that it had, what it printed
- * and what was wanted, each where it means something.
+ * The result of a case or a test that the script fails: the message, the input, the output and the wanted output, each
+ * if it applies.
  * @typedef {{says: string, input?: string, output?: string, wanted?: string}} Failure
  */
 
@@ -72,7 +72,7 @@ async function outcome(script, signal) {
 export class Trial {
     /**
      * @param {import('./exercises.js').Exercise} exercise
-     * @param {string} script what stands in the box of the script
+     * @param {string} script the content of the script's box
      * @param {AbortSignal} signal
      */
     constructor(exercise, script, signal) {
@@ -83,7 +83,7 @@ export class Trial {
     }
 
     /**
-     * The first failure, or null where there is none or the trial is stopped.
+     * The first failure, or null if there is none or the trial is stopped.
      * @returns {Promise<Failure | null>}
      */
     async failure() {
@@ -116,7 +116,7 @@ export class Trial {
         return isGood && withoutEnd(output) === withoutEnd(wanted);
     }
 
-    /** @returns {Promise<Failure | null>} where the calls that the exercise is about make no difference */
+    /** @returns {Promise<Failure | null>} a failure if the calls that the exercise is about make no difference */
     async withoutCalls() {
         const { needs, output } = this.exercise;
         if (!needs) return null;
@@ -125,7 +125,7 @@ export class Trial {
         return { says: `Not yet: this prints the right text also without its calls of ${needs[0]}.` };
     }
 
-    /** @returns {Promise<Failure | null>} where the script holds the text that it is to make */
+    /** @returns {Promise<Failure | null>} a failure if the script contains the text that it should make */
     async ofConstant() {
         const { constant, output } = this.exercise;
         if (!constant) return null;

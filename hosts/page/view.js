@@ -27,7 +27,7 @@ export function isFault(fate) {
 }
 
 /**
- * The step behind the string that the next step reads, where the steps of the idling procedure are folded into one.
+ * The step after the string that the next step reads, if the steps of the idling procedure are shown as one.
  * @param {History} history
  */
 export function stepRead(history) {

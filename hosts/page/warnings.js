@@ -11,20 +11,24 @@ import {
 } from './dom.js';
 import { pause } from './machines.js';
 
-/** So many steps are looked at first, and then four times as many, while that is quick, up to a bound. */
-const FEWEST_CHECKED = 500;
+/** The number of steps to examine first; then twice as many, while that is quick, up to a bound. */
+const FEWEST_CHECKED = 15;
 const MOST_CHECKED = 50000;
-/** A look that takes more milliseconds is the last one. */
-const QUICK = 20;
+/** A look is slow if it takes so many milliseconds more than the quickest one. Each look takes some time for the memory
+ * and the text, whatever its steps; on a slow machine that alone is more. */
+const QUICK = 10;
+/** The browser may have been busy with something else, so a slow look is made again, up to so many times in all. */
+const TRIES = 5;
 /** The cells of the largest block that is looked at: to clear a larger one takes long. */
 const MOST_CLEARED = 2 ** 20;
 const MOST_PLACES = 200;
-/** What stands in a line of the engine as the script has it: a name, or an argument. */
-const AS_WRITTEN = new RegExp('((?<=^in the value of ).*?(?=, column \\d)|(?<=(?:has the name|leaves out the function'
-    + '|no notice of the argument|given, of the form|in the name of a call:) ).*$)', 's');
+/** The parts of the engine's lines that quote the script: a name, or an argument. */
+const AS_WRITTEN = new RegExp('((?<=^in the value of ).*?(?=, column \\d)|(?<=than gaps: ).*(?= has \\d+ gap)'
+    + '|(?<=(?:has the name|leaves out the function|no notice of the argument|given, of the form|in the form'
+    + '|in the name of a call:|inside longer words:|not performed, of|small letters:) ).*$)', 's');
 
 /**
- * Where a place stands in a text, in the units of a string.
+ * A place in a text, in the units of a string.
  * @param {string} text
  * @param {number} line from 1
  * @param {number} column from 1, in characters
@@ -38,10 +42,10 @@ function placeIn(text, line, column) {
     return place;
 }
 
-/** The list, made when a run is shown and when what is typed stands still. */
+/** The list, made when a run is shown and when the user pauses while typing. */
 export class Warnings {
     /**
-     * @param {(place: number) => void} onPlace called with the place in the texts that is to be shown
+     * @param {(place: number) => void} onPlace called with the place in the texts to show
      * @param {(places: number[]) => void} onSpots called with the places of those that are listed, each once, in order
      */
     constructor(onPlace, onSpots) {
@@ -62,7 +66,7 @@ export class Warnings {
     }
 
     /**
-     * Lists what is suspicious: looks at some steps, and at more while that is quick, so the page isn't held for long.
+     * Lists what is suspicious: examines some steps, and more while that is quick, so the page isn't blocked for long.
      * @param {string} text the script and the further input
      * @param {{cells: number, steps: number}} limits
      */
@@ -71,15 +75,21 @@ export class Warnings {
         this.isOutdated = false;
         const look = this.looks;
         const input = bytesOfText(text);
-        for (let most = Math.min(FEWEST_CHECKED, steps); ; most = Math.min(4 * most, steps, MOST_CHECKED)) {
+        let quickest = Infinity;
+        for (let [most, slow] = [Math.min(FEWEST_CHECKED, steps), 0]; ;) {
             const start = performance.now();
             const { fate, warnings } = await check(input, { cells: Math.min(cells, MOST_CLEARED), steps: most });
             if (look !== this.looks) return;
+            const took = performance.now() - start;
+            quickest = Math.min(quickest, took);
+            const isSlow = took - quickest > QUICK;
+            slow = isSlow ? slow + 1 : 0;
             const isAll = fate !== 'steps' || most === steps;
-            if (isAll || most === MOST_CHECKED || performance.now() - start > QUICK) {
+            if (isAll || most === MOST_CHECKED || slow === TRIES) {
                 this.show(text, warnings, isAll ? Infinity : most);
                 return;
             }
+            if (!isSlow) most = Math.min(2 * most, steps, MOST_CHECKED);
             await pause();
         }
     }

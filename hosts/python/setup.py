@@ -1,4 +1,4 @@
-"""Builds the package over the engine in C, which stands beside this folder, or in it in an unpacked archive."""
+"""Builds the package over the engine in C, which is beside this folder, or inside it in an unpacked archive."""
 import os
 import re
 
@@ -10,7 +10,7 @@ FILES = ('trac.h', 'trac_engine.c')
 
 
 def version():
-    """The version that the header says."""
+    """The version in the header."""
     with open(f'{ENGINE}/trac.h', encoding='utf-8') as header:
         return re.search(r'#define TRAC_VERSION "(.*)"', header.read())[1]
 

@@ -1,7 +1,7 @@
-"""Takes the contracts out of a source in Rattle, so that Rust is left: each line of the Rust is one of the source.
+"""Removes the contracts from a Rattle source, so that Rust is left: each line of the Rust is a line of the source.
 
-Whole lines go: contracts, ghosts, models and proofs, each with the comment right above it, and what is the prover's.
-What this doesn't know is an error."""
+Whole lines are removed: contracts, ghost code, models and proofs, each with the comment right above it, and attributes
+for the prover. Anything else that this doesn't know is an error."""
 import re
 
 # Comments, strings and characters, in which nothing is looked for.
@@ -17,10 +17,10 @@ GHOST = re.compile(
                |prove\w*!\()                                        # a proof
                ''', re.MULTILINE | re.VERBOSE)
 COMMENT = re.compile(r'(?:[ \t]*//(?!!)[^\n]*\n)+\Z')
-# The derives that rustc lacks: what the kit drops, and an error that needs std.
+# The derives that rustc doesn't have: one that the kit drops, and an error that needs std.
 DERIVE = re.compile(r'(?<=#\[derive\()([^)]*)(?=\)\])')
 FOREIGN = {'Drop', 'thiserror::Error'}
-# A function that asks an allocator for memory, with what stands right above it. A block is lent, so none is needed.
+# A function that allocates memory, with the lines right above it. The caller provides the block, so none is needed.
 ASKS = re.compile(r'(?:^(?://|#\[)[^\n]*\n)*^(?:pub )?fn \w+\([^{]*\bAllocError\b[^{]*\{', re.MULTILINE)
 LEFT = re.compile(r'\b(?:ghost|requires|ensures|invariant|decreases|measure|tactic|lemmas|Model|Rattle|AllocError)\b|'
                   r'\bprove\w*!|[^\x00-\x7f]')
@@ -31,7 +31,7 @@ class Unknown(Exception):
 
 
 def masked(text):
-    """The text with spaces for what stands in comments and quotes, as long as it is."""
+    """The text with spaces in place of comments and quotes, with the same length."""
     return TEXTS.sub(lambda found: re.sub(r'[^\n]', ' ', found[0]), text)
 
 
@@ -40,7 +40,7 @@ def line_of(text, place):
 
 
 def closing(code, place):
-    """The place behind the bracket that closes the one at `place`."""
+    """The place after the bracket that closes the one at `place`."""
     depth = 0
     for at in range(place, len(code)):
         depth += (code[at] in '([{') - (code[at] in ')]}')
@@ -50,7 +50,7 @@ def closing(code, place):
 
 
 def end_of(code, found):
-    """The place behind what begins there."""
+    """The place after what begins there."""
     if found.re is STATEMENT:
         return (code + ';').index(';', found.start()) + 1
     if found.re is ATTRIBUTE:
@@ -61,7 +61,7 @@ def end_of(code, found):
 
 
 def without(text, pattern):
-    """The text without the lines of what a pattern finds. A semicolon behind the last clause of a head stays."""
+    """The text without the lines that a pattern finds. A semicolon after the last clause of a head stays."""
     code, kept, place = masked(text), '', 0
     for found in pattern.finditer(code):
         begin, end = found.start(), end_of(code, found)
@@ -91,12 +91,12 @@ def derived(found):
 
 
 def erase(text):
-    """The Rust of a source. Raises `Unknown` where something of the prover is left."""
+    """The Rust of a source. Raises `Unknown` if something for the prover is left."""
     for pattern in (STATEMENT, ATTRIBUTE, GHOST):
         text = without(text, pattern)
     text = DERIVE.sub(derived, without_memory(text))
     text = re.sub(r'^[ \t]*(?:#\[derive\(\)\]|#\[error\("[^"]*"\)\])\n', '', text, flags=re.MULTILINE)
-    # No two empty lines in a row, none at the end, and none behind an opening bracket or before a closing one.
+    # No two empty lines in a row, none at the end, and none after an opening bracket or before a closing one.
     text = re.sub(r'\n{3,}', '\n\n', text).rstrip('\n') + '\n'
     text = re.sub(r'\{\n\n', '{\n', re.sub(r'\n\n([ \t]*\})', r'\n\1', text))
     left = LEFT.search(masked(text))

@@ -11,8 +11,10 @@ use Rattle.trac_language.specs.Rule.{Rule, EndCall, rule}
 use Rattle.trac_language.specs.Step.{function_of}
 use Rattle.trac_core.specs.Performed.{performed_by, performs, calls_device, needs_device_by, needs_device}
 use Rattle.trac_core.specs.Machine.{Answers}
+use Rattle.trac_core.specs.OpenCalls.{asks_host}
+use Rattle.trac_core.specs.Answering.{asks_next}
 use Rattle.trac_core.specs.Advancing.{GoesAlone, StopsAlone, Advanced}
-use Rattle.trac_c.specs.declared.turn.Turn.TheVariants.{Waits, Full}
+use Rattle.trac_c.specs.declared.turn.Turn.TheVariants.{Waits, Full, Asks}
 use Rattle.trac_c.specs.Turns.{TurnsTo, EndsTurn}
 
 -- a call that uses no device waits for nothing
@@ -36,6 +38,10 @@ waits-none ended m bytes alone =
     let none = next-alone (is_none m.fate && nat_lt m.steps m.allowance) (performs m.memory) (unread (rule m.memory.active) m.memory.calls alone) in
     and_right (not ended) (is_short (awaited (next_function m)) m bytes) (ap (λ a. is_short a m bytes) none)
 
+-- a turn that doesn't stop before a step over this memory doesn't stop before the next one
+pub unasked : (m : MachineState) → asks_host m ≡ false → asks_next m ≡ false
+unasked m e = and_right (is_none m.fate && nat_lt m.steps m.allowance) (asks_host m) e
+
 -- n steps that need no device follow k steps of a turn
 goes-alone : (n k : ℕ) (ended : Bool) (start : Moment) (old new : MachineState) (source : Stream) (written : Text) → GoesAlone n old new → Goes ended k start (moment old source written) → Goes ended (k + n) start (moment new source written)
 goes-alone zero k ended start old new source written same goes =
@@ -47,7 +53,7 @@ goes-alone (suc n) k ended start old new source written alone goes =
     let before = goes-alone n k ended start old middle source written alone.1.0 goes in
     let one : suc (k + n) ≡ k + suc n = omega arith in
     subst (λ j. Goes ended j start (moment new source written)) one
-    (moment middle source written, (before, (waits-none ended middle source.bytes step.alone, (step.goes source written, step.going))))
+    (moment middle source written, (before, (waits-none ended middle source.bytes step.alone, (step.goes source written, (step.going, (unasked middle step.unasked, step.settings))))))
 
 -- n steps that need no device follow k steps of a turn, and the run goes on
 pub goes-on : (most n k : ℕ) (ended : Bool) (start : Moment) (old new : MachineState) (source : Stream) (written : Text) → new.fate ≡ None → Advanced most n old new → Goes ended k start (moment old source written) → Goes ended (k + n) start (moment new source written)
@@ -59,6 +65,7 @@ ends-turn : (ended : Bool) (most done : ℕ) (before : Moment) (last : Turn) (ne
 ends-turn ended most done before Went new other few turns = absurd (other refl)
 ends-turn ended most done before Waits new other few turns = (few, turns)
 ends-turn ended most done before (Full printed) new other few turns = (few, turns)
+ends-turn ended most done before Asks new other few turns = (few, turns)
 ends-turn ended most done before (Over fate) new other few turns = (few, turns)
 
 -- n steps that need no device follow k steps of a turn, which then ends: with what comes next, or since the run is over
@@ -81,7 +88,7 @@ ends-on most n k ended start new old middle source written last few other turns 
         let at = over fate is_over in
         let before = moment to.0 source written in
         let answers : Answers before (Some fate) new = subst (λ new. Answers before (Some fate) new) (sym at.1) (stops.1.ends source written) in
-        let turned : TurnsTo ended before last new = subst (λ t. TurnsTo ended before t new) (sym at.0) (waits-none ended to.0 source.bytes stops.1.alone, ((λ e. stops.1.none_failed.0 (ap Some e), λ e. stops.1.none_failed.1 (ap Some e)), answers)) in (
+        let turned : TurnsTo ended before last new = subst (λ t. TurnsTo ended before t new) (sym at.0) (waits-none ended to.0 source.bytes stops.1.alone, ((λ e. stops.1.none_failed.0 (ap Some e), λ e. stops.1.none_failed.1 (ap Some e)), (answers, unasked to.0 stops.1.unasked))) in (
           k + n,
           (
             before,

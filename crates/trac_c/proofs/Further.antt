@@ -111,7 +111,7 @@ all-with-more (suc n) old new more ended going goes =
     let before = all-with-more n old middle more ended going goes.1.0 in
     let step = goes.1.1 in
     let stays = more-enough (awaited (next_function middle.machine)) middle.machine middle.source.bytes more step.0 in (
-      step.1.1,
+      step.1.1.0,
       (
         followed_by more middle,
         (

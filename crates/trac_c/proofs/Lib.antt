@@ -6,6 +6,7 @@ mod Coding
 mod Further
 mod KeptLooks
 mod ListedForms
+mod NextTexts
 mod Printing
 mod Roomy
 mod StepLines

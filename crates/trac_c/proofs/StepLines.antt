@@ -9,7 +9,7 @@ use Rattle.trac_language.specs.declared.fate.Fate.TheVariants.{Halted, InputEnde
 use Rattle.trac_c.specs.Reports.{number}
 use Rattle.trac_core.specs.Machine.{Moment}
 use Rattle.trac_c.specs.Turns.{TellsTurn, waits_for_input}
-use Rattle.trac_c.specs.declared.turn.Turn.TheVariants.{Waits}
+use Rattle.trac_c.specs.declared.turn.Turn.TheVariants.{Waits, Asks}
 use Rattle.std.specs.Prelude.{OnOk, is_ok}
 use Rattle.std.specs.declared.result.Result.{Result}
 use Rattle.std.specs.declared.result.Result.TheVariants.{Err, Ok}
@@ -61,6 +61,9 @@ module _ (ended : Bool) (input buffer : Text) (old new : MachineState) (told : T
       )
       go (suc n) less goes = absurd (omega (arith, less))
   by-last (Full printed) left going tells =
+      let is = tells.fate in
+      absurd (omega (arith, waits, is))
+  by-last Asks left going tells =
       let is = tells.fate in
       absurd (omega (arith, waits, is))
   by-last (Over fate) left going tells = absurd (number-not-7 fate (sym tells.fate ∙ waits))

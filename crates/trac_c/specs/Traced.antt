@@ -76,9 +76,10 @@ abbrev pub answer_number : Option Fate → ℕ
 answer_number None = 0
 answer_number (Some fate) = number fate
 
--- whether a report says that no step was made: its turn waits for input or for room
+-- whether a report says that no step was made: its turn waits for input, for room, or for the host's value of
+-- a call
 abbrev pub is_waiting : ℕ → Bool
-is_waiting fate = if fate == 7 then true else (fate == 8)
+is_waiting fate = if fate == 7 then true else (if fate == 8 then true else (fate == 11))
 
 -- `told` reports a step of a machine behind whose `input` reading fails; its output stands at the front of the buffer
 abbrev pub FailsBehind : (input buffer : Text) → (old : MachineState) → TracReport → (new : MachineState) → Type 0

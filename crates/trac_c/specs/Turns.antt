@@ -12,6 +12,8 @@ use Rattle.trac_core.specs.declared.machine.session.Awaits.{Awaits}
 use Rattle.trac_core.specs.declared.machine.session.Awaits.TheVariants.{Nothing, Byte}
 use Rattle.trac_core.specs.declared.machine.session.Awaits.TheVariants.{Text as AwaitsText}
 use Rattle.trac_core.specs.Machine.{MachineState, Moment, moment, ending, state_with, GoesOn, Answers}
+use Rattle.trac_core.specs.Machine.{KeepsSettings}
+use Rattle.trac_core.specs.Answering.{asks_next}
 use Rattle.trac_core.specs.Session.{awaited, next_function, next_printed}
 use Rattle.trac_c.specs.Reports.{number}
 use Rattle.trac_c.specs.Held.{listed}
@@ -19,7 +21,7 @@ use Rattle.trac_c.specs.declared.devices.GivenSource.{GivenSource}
 use Rattle.trac_c.specs.declared.devices.RoomySink.{RoomySink}
 use Rattle.trac_c.specs.declared.report.TracReport.{TracReport}
 use Rattle.trac_c.specs.declared.turn.Turn.{Turn}
-use Rattle.trac_c.specs.declared.turn.Turn.TheVariants.{Went, Waits, Full, Over}
+use Rattle.trac_c.specs.declared.turn.Turn.TheVariants.{Went, Waits, Full, Asks, Over}
 
 -- whether a step of `m` that awaits this needs more than `bytes`: a string that no meta character
 -- ends yet, as long as the cells could still hold it, or a byte where there is none
@@ -44,19 +46,22 @@ MayGetMore m bytes =
 abbrev pub NoDeviceFailed : Fate → Type 0
 NoDeviceFailed fate = (fate ≢ InputFailed) × (fate ≢ OutputFailed)
 
--- what a part of a turn comes to, for a machine whose run is not over: a step that was done; none,
--- since it waits for input; or a step with which the run is over
+-- what a part of a turn comes to, for a machine whose run is not over: a step that was done; none, since
+-- it waits for input, for room, or for the host's value of a call; or a step with which the run is over
 abbrev pub TurnsTo : Bool → Moment → Turn → Moment → Type 0
 TurnsTo ended old Went new =
     (waits_for_input ended old.machine old.source.bytes ≡ false)
-    × (GoesOn old new × (new.machine.fate ≡ None))
+    × (GoesOn old new × ((new.machine.fate ≡ None)
+    × ((asks_next old.machine ≡ false) × KeepsSettings old.machine new.machine)))
 TurnsTo ended old Waits new =
     (waits_for_input ended old.machine old.source.bytes ≡ true) × (new ≡ old)
 TurnsTo ended old (Full printed) new =
-    (waits_for_input ended old.machine old.source.bytes ≡ false) × (new ≡ old)
+    (waits_for_input ended old.machine old.source.bytes ≡ false)
+    × ((asks_next old.machine ≡ false) × (new ≡ old))
+TurnsTo ended old Asks new = (asks_next old.machine ≡ true) × (new ≡ old)
 TurnsTo ended old (Over fate) new =
     (waits_for_input ended old.machine old.source.bytes ≡ false)
-    × (NoDeviceFailed fate × Answers old (Some fate) new)
+    × (NoDeviceFailed fate × (Answers old (Some fate) new × (asks_next old.machine ≡ false)))
 
 -- n steps of a turn lead from moment `old` to moment `new`
 abbrev pub Goes : Bool → ℕ → Moment → Moment → Type 0
@@ -75,12 +80,13 @@ GoesWithMore n old new =
     (more : Text) (ended : Bool) → Goes ended n (followed_by more old) (followed_by more new)
 
 -- a turn of at most `most` steps ends after `done` of them: no step is left to it, or the next one
--- waits, lacks room or ends the run
+-- waits, lacks room, asks the host or ends the run
 abbrev pub EndsTurn : Bool → (most done : ℕ) → Moment → Turn → Moment → Type 0
 EndsTurn ended most done before Went new = (done ≡ most) × (new ≡ before)
 EndsTurn ended most done before Waits new = (done < most) × TurnsTo ended before Waits new
 EndsTurn ended most done before (Full printed) new =
     (done < most) × TurnsTo ended before (Full printed) new
+EndsTurn ended most done before Asks new = (done < most) × TurnsTo ended before Asks new
 EndsTurn ended most done before (Over fate) new =
     (done < most) × TurnsTo ended before (Over fate) new
 
@@ -113,6 +119,7 @@ abbrev pub turn_number : Turn → ℕ
 turn_number Went = 0
 turn_number Waits = 7
 turn_number (Full printed) = 8
+turn_number Asks = 11
 turn_number (Over fate) = number fate
 
 -- what is wanted: as many bytes as the next step prints, where there was no room for them
@@ -120,6 +127,7 @@ abbrev pub wanted_by : Turn → ℕ
 wanted_by (Full printed) = printed
 wanted_by Went = 0
 wanted_by Waits = 0
+wanted_by Asks = 0
 wanted_by (Over fate) = 0
 
 -- `told` reports in numbers a turn over `input`, which ends with `last` and whose output stands at the
@@ -176,6 +184,7 @@ told_again most fate m =
 -- its fate again
 pub record TurnedOrOver (ended : Bool) (most : ℕ) (input buffer : Text) (old : MachineState)
     (told : TracReport) (new : MachineState) : Type 0 where
+  pub settings : KeepsSettings old new
   pub turn : old.fate ≡ None → TurnOf ended most input buffer old new told
   pub over :
       (fate : Fate) → old.fate ≡ Some fate → (new ≡ old) × (told ≡ told_again most fate old)

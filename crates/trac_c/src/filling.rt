@@ -1,18 +1,12 @@
 //! Buffers of a caller's, filled from the front as far as they reach.
 ghost use Rattle.std.specs.Prelude.{◌≡◌, ◌+◌, ◌<◌, ◌≤◌, [], ◌∷◌, length, min, take};
-ghost use Rattle.std.specs.Prelude.{◌++◌};
+ghost use Rattle.std.specs.Prelude.{◌-◌, ◌^◌, ◌++◌, drop};
+ghost use Rattle.trac_c.specs.Held.{buffer_code};
+ghost use Rattle.trac_checker.specs.WrittenBytes.{bytes_of};
 ghost use Rattle.trac_c.specs.Buffers.{laid, laid_from};
 
+use trac_checker::Unkept;
 use trac_core::{Characters, Sink, SinkFailed};
-
-/// Puts an item to a place of a buffer. Behind the end of the buffer nothing is done.
-pub(crate) fn put<T: Copy>(item: T, place: usize, room: &mut [T])
-    ensures { room.new ≡ laid_from place (item ∷ []) room.old }
-{
-    if place < room.len() {
-        room[place] = item;
-    }
-}
 
 /// Puts bytes to the front of a buffer, as many as fit, and gives how many fit.
 pub(crate) fn lay(bytes: &[u8], room: &mut [u8]) -> usize
@@ -119,5 +113,79 @@ impl Sink for FillingSink<'_> {
 
     fn failures(&self) -> u64 {
         self.failures
+    }
+}
+
+/// A sink over a buffer that passes over the first bytes, and drops those for which there is no room. It never fails.
+#[derive(Drop)]
+pub(crate) struct PartSink<'a> {
+    /// How many bytes are passed over in all, and how many of them are still to come.
+    from: usize,
+    before: usize,
+    room: &'a mut [u8],
+    size: usize,
+    len: usize,
+    /// All that was put, as contracts see it: it takes no memory.
+    all: &'a mut Unkept,
+    ghost passing: { before ≡ from - length (bytes_of all.now.written.value) },
+    ghost filled: { len ≡ min (length (drop from (bytes_of all.now.written.value))) (length room.now) },
+    ghost bounded: { (from < 2 ^ 64) × (size < 2 ^ 64) },
+    ghost sized: { length room.now ≡ size },
+    ghost part: { take len room.now ≡ take len (drop from (bytes_of all.now.written.value)) },
+}
+
+impl<'a> PartSink<'a> {
+    /// A sink over this buffer, which passes over the first `from` bytes.
+    pub(crate) fn new(from: usize, room: &'a mut [u8], all: &'a mut Unkept) -> PartSink<'a>
+        requires none { bytes_of all.old.written.value ≡ [] }
+        ensures same_room { result.room.ghost_name ≡ room.entry.ghost_name }
+        ensures size { length result.room.now ≡ length room.old }
+        ensures from { result.from ≡ from }
+        ensures empty { bytes_of result.all.now.written.value ≡ [] }
+    {
+        PartSink {
+            from,
+            before: from,
+            size: room.len(),
+            room,
+            len: 0,
+            all,
+        }
+    }
+}
+
+impl Sink for PartSink<'_> {
+    ghost tells = { λ _. Unit {0} };
+
+    ghost written = { λ s. bytes_of s.all.now.written.value };
+
+    ghost flushed = { λ _. Unit {0} };
+
+    ghost failure_count = { λ _. 0 };
+
+    // calls keep the buffer, its size, and how many bytes are passed over
+    ghost lent = { λ s. buffer_code (buffer_code s.room.ghost_name s.from) s.size };
+
+    fn put(&mut self, byte: u8) -> Result<(), SinkFailed> {
+        if self.before > 0 {
+            self.all.put(byte)?;
+            self.before -= 1;
+            return Ok(());
+        }
+        if self.len < self.room.len() {
+            self.room[self.len] = byte;
+            self.all.put(byte)?;
+            self.len += 1;
+            return Ok(());
+        }
+        self.all.put(byte)
+    }
+
+    fn flush(&mut self) -> Result<(), SinkFailed> {
+        Ok(())
+    }
+
+    fn failures(&self) -> u64 {
+        0
     }
 }

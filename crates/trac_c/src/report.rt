@@ -2,6 +2,7 @@
 ghost use Rattle.std.specs.Prelude.{◌≡◌};
 ghost use Rattle.trac_c.specs.Checked.{no_memory};
 ghost use Rattle.trac_c.specs.Reports.{number, refused};
+ghost use Rattle.trac_c.specs.Traced.{answer_number};
 
 use trac_core::Fate;
 
@@ -17,13 +18,16 @@ pub(crate) const REFUSED: u32 = 9;
 /// The memory that was lent for lists ran out.
 pub(crate) const NO_MEMORY: u32 = 10;
 
+/// A turn waits for the host's value of a call.
+pub(crate) const ASKS: u32 = 11;
+
 /// What a run came to, as C reads it.
 #[repr(C)]
 #[derive(Drop)]
 pub struct TracReport {
     /// How it ended: the number of a fate, 9 if the number of cells was refused, or 10 if the memory of a check or of
     /// a trace ran out. A turn after which the run goes on has 0 if its steps are used up, 7 if it waits for input,
-    /// and 8 if it waits for room in the output.
+    /// 8 if it waits for room in the output, and 11 if it waits for the host's value of a call.
     pub fate: u32,
     /// The greatest need of a step, in cells.
     pub peak: u32,
@@ -49,6 +53,16 @@ pub(crate) fn number(fate: Fate) -> u32
         Fate::Steps => 4,
         Fate::InputFailed => 5,
         Fate::OutputFailed => 6,
+    }
+}
+
+/// The number of an answer of a step: 0 where the run goes on.
+pub(crate) fn answer_number(answer: Option<Fate>) -> u32
+    ensures { result ≡ answer_number answer }
+{
+    match answer {
+        None => 0,
+        Some(fate) => number(fate),
     }
 }
 

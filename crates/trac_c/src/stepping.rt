@@ -1,11 +1,11 @@
 //! One step of a machine that C keeps, behind whose input reading may fail.
 ghost use Rattle.std.specs.Prelude.{◌≡◌, ◌≤◌, length};
-ghost use Rattle.trac_c.specs.Traced.{FailsBehind, Stepped, answer_number};
+ghost use Rattle.trac_c.specs.Traced.{FailsBehind, Stepped};
 
 use crate::filling::FillingSink;
-use crate::report::{TracReport, WAITS, number};
+use crate::report::{TracReport, WAITS, answer_number};
 use crate::turn::take_turn;
-use trac_core::{Fate, Machine, SliceSource};
+use trac_core::{Machine, SliceSource};
 
 /// That reading fails behind the input of a step.
 const FAILS: u32 = 2;
@@ -43,15 +43,5 @@ fn failed_step(machine: &mut Machine<'static>, input: &[u8], output: &mut [u8]) 
         written: sink.len(),
         consumed: input.len().saturating_sub(source.rest().len()),
         wanted: 0,
-    }
-}
-
-/// The number of an answer of a step: 0 where the run goes on.
-fn answer_number(answer: Option<Fate>) -> u32
-    ensures { result ≡ answer_number answer }
-{
-    match answer {
-        None => 0,
-        Some(fate) => number(fate),
     }
 }

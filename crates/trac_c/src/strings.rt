@@ -14,8 +14,8 @@ ghost use Rattle.trac_c.specs.View.{part_cells, mark_code, comma_code, is_open_a
 ghost use Rattle.trac_c.specs.View.{call_places};
 ghost use Rattle.trac_core.specs.View.{dropped, steps_before_call, taken};
 
-use crate::filling::put;
 use trac_core::{Awaits, Cell, Machine, ScanningRule};
+use trac_image::put;
 use trac_space::{Mode, character_of};
 
 /// Puts the active string from a place on to the front of a buffer, as much as fits, and gives how
@@ -27,7 +27,7 @@ pub(crate) fn lay_active(machine: &Machine<'static>, from: usize, room: &mut [u3
 }
 
 /// The cells from a place on, none where the string ends before it.
-fn cells_from(cells: &[Cell], from: usize) -> &[Cell]
+pub(crate) fn cells_from(cells: &[Cell], from: usize) -> &[Cell]
     ensures { result.now ≡ drop from cells.now }
 {
     &cells[from.min(cells.len())..]

@@ -9,7 +9,7 @@ ghost use Rattle.trac_c.specs.Traced.{is_waiting, last_shown, progress_of, repor
 ghost use types.Logic.{sem};
 
 use crate::filling::lay;
-use crate::report::{FULL, NO_MEMORY, TracReport, WAITS};
+use crate::report::{ASKS, FULL, NO_MEMORY, TracReport, WAITS};
 use crate::stepping::one_step;
 use std::alloc::{AllocError, Allocator};
 use trac_core::{Fate, Machine};
@@ -325,7 +325,7 @@ fn lay_told<A: Allocator + Copy>(
 fn is_waiting(fate: u32) -> bool
     ensures { result ≡ is_waiting fate }
 {
-    fate == WAITS || fate == FULL
+    fate == WAITS || fate == FULL || fate == ASKS
 }
 
 /// The fate that has this number. None if it is the number of none.

@@ -5,10 +5,10 @@ ghost use Rattle.trac_core.specs.Session.{awaited, next_function, next_printed};
 ghost use Rattle.trac_language.specs.State.{Input};
 ghost use Rattle.trac_c.specs.Turns.{TurnsTo, LacksRoom, is_short, is_ended, stands, SomeTurned};
 ghost use Rattle.trac_c.specs.Turns.{TurnedOrOver, turn_number, last_over, wanted_by, MayGetMore};
-ghost use Rattle.trac_core.specs.Machine.{KeepsLimits};
+ghost use Rattle.trac_core.specs.Machine.{KeepsLimits, KeepsSettings};
 
 use crate::devices::{GivenSource, RoomySink};
-use crate::report::{FULL, TracReport, WAITS, number};
+use crate::report::{ASKS, FULL, TracReport, WAITS, number};
 use trac_core::{Fate, Machine};
 use trac_language::Function;
 
@@ -21,6 +21,8 @@ pub(crate) enum Turn {
     Waits,
     /// The next step prints this many bytes, more than there is room for; it wasn't done.
     Full(u32),
+    /// The next step performs a call of no function, and the host is to give its value; it wasn't done.
+    Asks,
     /// The run is over.
     Over(Fate),
 }
@@ -56,7 +58,7 @@ fn wanted(last: Turn) -> usize
 {
     match last {
         Turn::Full(printed) => printed as usize,
-        Turn::Went | Turn::Waits | Turn::Over(_) => 0,
+        Turn::Went | Turn::Waits | Turn::Asks | Turn::Over(_) => 0,
     }
 }
 
@@ -68,6 +70,7 @@ fn turn_number(last: Turn) -> u32
         Turn::Went => 0,
         Turn::Waits => WAITS,
         Turn::Full(_) => FULL,
+        Turn::Asks => ASKS,
         Turn::Over(fate) => number(fate),
     }
 }
@@ -90,6 +93,7 @@ fn go_on(
         LacksRoom printed machine.new sink.new }
     ensures waits { result ≡ Turn.Waits → MayGetMore machine.new source.new.slice.bytes }
     ensures fits { sink.new.behind ≡ None }
+    ensures settings { KeepsSettings machine.old machine.new }
     ensures over { (fate : Fate) → machine.old.fate ≡ Some fate →
         (result ≡ last_over most fate) × (machine.new ≡ machine.old)
         × (source.new ≡ source.old) × (sink.new.len ≡ sink.old.len) }
@@ -110,8 +114,8 @@ fn go_on(
     Turn::Went
 }
 
-/// Makes the next step, which performs `function`, unless it waits for input or prints more than there is room
-/// for.
+/// Makes the next step, which performs `function`, unless it waits for input or for the host's value of a call, or
+/// prints more than there is room for.
 fn step_on(
     machine: &mut Machine,
     function: Option<Function>,
@@ -134,7 +138,11 @@ fn step_on(
     ensures waits { result ≡ Turn.Waits → MayGetMore machine.new source.new.slice.bytes }
     ensures fits { sink.new.behind ≡ None }
     ensures went { result ≡ Turn.Went → (machine.new.fate ≡ None) × (sink.new.failures ≡ 0) }
+    ensures settings { KeepsSettings machine.old machine.new }
 {
+    if machine.asks() {
+        return Turn::Asks;
+    }
     if !ended && waits(machine, function, source.rest()) {
         return Turn::Waits;
     }

@@ -1,8 +1,8 @@
 //! What C sees of a machine that it keeps. Each of these has the machine by a shared reference, through which nothing
 //! can be written: no cell of the block moves, and no word of the machine changes.
-ghost use Rattle.std.specs.Prelude.{◌≡◌, drop, length, slice_get};
+ghost use Rattle.std.specs.Prelude.{◌≡◌, ◌≤◌, drop, length, slice_get};
 ghost use Rattle.trac_language.specs.Rule.{rule};
-ghost use Rattle.trac_language.specs.State.{argument};
+ghost use Rattle.trac_language.specs.State.{argument, size};
 ghost use Rattle.trac_core.specs.Machine.{MachineState};
 ghost use Rattle.trac_core.specs.OpenCalls.{next_texts};
 ghost use Rattle.trac_core.specs.Session.{awaited, next_function};
@@ -12,9 +12,13 @@ ghost use Rattle.trac_c.specs.Buffers.{Lays};
 ghost use Rattle.trac_c.specs.Forms.{name_of, display_of, codes_of, pointer_of};
 ghost use Rattle.trac_c.specs.View.{codes_of_neutral, rule_number, awaits_number, part_cells};
 ghost use Rattle.trac_c.specs.View.{call_places};
+ghost use Rattle.trac_c.specs.Printed.{next_text};
+ghost use Rattle.trac_c.specs.Sources.{source_number};
+ghost use Rattle.trac_events.specs.Sources.{next_source};
 ghost use types.Logic.{sem};
 
-use crate::forms::{count, lay_argument, lay_codes, lay_display, lay_name, pointer};
+use crate::forms::{count, lay_argument, lay_codes, lay_display, lay_name, lay_printed, pointer};
+use crate::source::next_source;
 use crate::strings;
 use trac_core::Machine;
 
@@ -153,6 +157,18 @@ pub unsafe extern "C" fn trac_engine_argument(
     lay_argument(&*(machine as *const Machine<'static>), which, to)
 }
 
+/// How long what the next step prints is from byte `from` on; that goes to the front of `to`, as much of it as fits.
+/// Where it prints nothing, where the run is over, and where the allowance is used up, 0, and `to` stays as it is.
+#[unsafe(no_mangle)]
+pub unsafe extern "C" fn trac_engine_printed(machine: *mut u64, from: usize, to: &mut [u8]) -> usize
+    ghost held: { MachineState }
+    requires* { sem 𝓛 (machine_at machine held) }
+    ensures* { sem 𝓛 (machine_at machine held) ∗
+        ⌜ Lays (drop from (next_text held)) result to.old to.new ⌝ }
+{
+    lay_printed(&*(machine as *const Machine<'static>), from, to)
+}
+
 /// How many characters the next step takes from the front of the active string: those that open a call,
 /// a text in parentheses with both of them, all where a left parenthesis has no match, none of an empty
 /// string, and else one.
@@ -232,4 +248,21 @@ pub unsafe extern "C" fn trac_engine_awaits(machine: *mut u64) -> u32
         ⌜ result ≡ awaits_number (awaited (next_function held)) ⌝ }
 {
     strings::awaits_number(&*(machine as *const Machine<'static>))
+}
+
+/// Where the value of the call comes from that the next step performs, in numbers. What `which` asks: 0 the kind, which
+/// is 0 if the value is null, if the call ends the run and if no call is performed, 1 for an argument, 2 for all of the
+/// form that the call names from its pointer on, 3 for the characters that the pointer of that form passes over in the
+/// step, 4 for the input, 5 for the function itself; 1 the number of the argument, the name being argument 0, which for
+/// a kind of 3 is the value if the pointer stays; 2 how many of the items that the pointer passes over at last are no
+/// part of the value. 0 of any other number. Said of strings and forms that have at most 16,777,216 cells together, as
+/// in every block.
+#[unsafe(no_mangle)]
+pub unsafe extern "C" fn trac_engine_value_source(machine: *mut u64, which: u32) -> usize
+    ghost held: { MachineState }
+    requires* { sem 𝓛 (machine_at machine held) }
+    ensures* { sem 𝓛 (machine_at machine held) ∗
+        ⌜ (size held.memory ≤ 16777216 → result ≡ source_number which (next_source held)) ⌝ }
+{
+    next_source(&*(machine as *const Machine<'static>), which)
 }

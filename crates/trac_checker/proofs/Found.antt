@@ -9,11 +9,11 @@ use Rattle.std.specs.Map.{lookup}
 use Rattle.std.specs.Ordering.{is_eq, match_ordering, nat_cmp}
 use Rattle.std.specs.declared.vec.Vec.{Vec}
 use Rattle.trac_language.specs.Text.{Text}
-use Rattle.trac_warnings.specs.Findings.{is_no_form, is_repeated, once_more, texts_of, with_text}
+use Rattle.trac_warnings.specs.Findings.{is_noted, is_of_form, is_repeated, once_more, texts_of, with_text}
 use Rattle.trac_warnings.specs.Watched.{said}
 use Rattle.trac_warnings.specs.declared.findings.Findings.{Findings}
 use Rattle.trac_warnings.specs.declared.warning.Warning.{Warning}
-use Rattle.trac_checker.specs.FoundSoFar.{FoundSoFar, counts_with, found_in, is_said_again, missing_with, said_cmp, with_all, with_said}
+use Rattle.trac_checker.specs.FoundSoFar.{FoundSoFar, counts_with, found_in, is_said_again, told_with, said_cmp, with_all, with_said}
 use Rattle.trac_checker.specs.Warned.{found_of}
 
 -- an order of keys, seen by what they stand for
@@ -48,30 +48,30 @@ among text [] = refl
 among text (x ∷ texts) = ap (λ b. is_eq (slice_cmp nat_cmp text x.items) || b) (among text texts)
 
 module _ {A : Type 0} (cmp : Warning A → Warning A → Ordering) (same : (a b : Warning A) → cmp a b ≡ said_cmp (said a) (said b)) (old new : Findings A) (w : Warning A) where
-  counts-by : (again : Bool) → again ≡ is_said_again (said w) (texts_of old.missing) → (again ≡ true → new.counts.entries ≡ old.counts.entries)
+  counts-by : (again : Bool) → again ≡ is_said_again (said w) (texts_of old.told) → (again ≡ true → new.counts.entries ≡ old.counts.entries)
       → (again ≡ false → new.counts.entries ≡ insert_entry cmp old.counts.entries w (once_more (lookup (is_at (cmp w)) old.counts.entries)))
       → found_of new.counts.entries ≡ counts_with again (said w) (found_of old.counts.entries)
   counts-by true is repeated count = ap found_of (repeated refl)
   counts-by false is repeated count = ap found_of (count refl) ∙ counted said cmp said_cmp same old.counts.entries w
 
-  missing-by : (none : Bool) → (none ≡ false → new.missing ≡ old.missing) → (none ≡ true → texts_of new.missing ≡ with_text w.text.items (texts_of old.missing)) → texts_of new.missing ≡ missing_with none w.text.items (texts_of old.missing)
-  missing-by true others noted = noted refl
-  missing-by false others noted = ap texts_of (others refl)
+  told-by : (none : Bool) → (none ≡ false → new.told ≡ old.told) → (none ≡ true → texts_of new.told ≡ with_text w.text.items (texts_of old.told)) → texts_of new.told ≡ told_with none w.text.items (texts_of old.told)
+  told-by true others noted = noted refl
+  told-by false others noted = ap texts_of (others refl)
 
-  again-is : is_repeated w old.missing ≡ is_said_again (said w) (texts_of old.missing)
-  again-is = ap (λ b. is_no_form w.suspicion && b) (among w.text.items old.missing.keys)
+  again-is : is_repeated w old.told ≡ is_said_again (said w) (texts_of old.told)
+  again-is = ap (λ b. is_of_form w.suspicion && b) (among w.text.items old.told.keys)
 
   -- a warning was added
-  pub adds : (is_repeated w old.missing ≡ true → new.counts.entries ≡ old.counts.entries)
-      → (is_repeated w old.missing ≡ false → new.counts.entries ≡ insert_entry cmp old.counts.entries w (once_more (lookup (is_at (cmp w)) old.counts.entries)))
-      → (is_no_form w.suspicion ≡ false → new.missing ≡ old.missing)
-      → (is_no_form w.suspicion ≡ true → texts_of new.missing ≡ with_text w.text.items (texts_of old.missing))
+  pub adds : (is_repeated w old.told ≡ true → new.counts.entries ≡ old.counts.entries)
+      → (is_repeated w old.told ≡ false → new.counts.entries ≡ insert_entry cmp old.counts.entries w (once_more (lookup (is_at (cmp w)) old.counts.entries)))
+      → (is_noted w.suspicion ≡ false → new.told ≡ old.told)
+      → (is_noted w.suspicion ≡ true → texts_of new.told ≡ with_text w.text.items (texts_of old.told))
       → found_in new ≡ with_said (said w) (found_in old)
   adds repeated count others noted =
-      let counts : found_of new.counts.entries ≡ counts_with (is_said_again (said w) (texts_of old.missing)) (said w) (found_of old.counts.entries) =
-      counts-by (is_repeated w old.missing) again-is repeated count ∙ ap (λ b. counts_with b (said w) (found_of old.counts.entries)) again-is in
-      let missing = missing-by (is_no_form w.suspicion) others noted in
-      λ i. record { counts = counts i; missing = missing i }
+      let counts : found_of new.counts.entries ≡ counts_with (is_said_again (said w) (texts_of old.told)) (said w) (found_of old.counts.entries) =
+      counts-by (is_repeated w old.told) again-is repeated count ∙ ap (λ b. counts_with b (said w) (found_of old.counts.entries)) again-is in
+      let told = told-by (is_noted w.suspicion) others noted in
+      λ i. record { counts = counts i; told = told i }
 
 -- what warnings say, that of the last first
 last-said : {A : Type 0} (warnings : List (Warning A)) (last : Warning A) → reverse (map said (warnings ++ last ∷ [])) ≡ said last ∷ reverse (map said warnings)

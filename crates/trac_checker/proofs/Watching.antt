@@ -1,5 +1,5 @@
 -- A run that is watched, step by step beside the run of the definition.
-use Rattle.std.proofs.Common.{◌≡◌, ℕ, suc, [], ◌++◌, Some, map, reverse, refl, sym, subst}
+use Rattle.std.proofs.Common.{◌≡◌, ℕ, suc, [], ◌++◌, Some, ap, map, reverse, refl, sym, subst}
 use Rattle.trac_language.specs.declared.fate.Fate.{Fate}
 use Rattle.trac_language.specs.declared.report.Report.{Report}
 use Rattle.trac_language.specs.Text.{Text}
@@ -9,7 +9,7 @@ use Rattle.trac_core.proofs.Moments.{OnCourse, course-none, course-more}
 use Rattle.trac_core.proofs.Reported.{course_to, report_of, reported, reports-made}
 use Rattle.trac_warnings.specs.Watched.{IsFresh, KeepsRun, said}
 use Rattle.trac_warnings.specs.declared.watch.Watch.{Watch}
-use Rattle.trac_checker.specs.FoundSoFar.{FoundSoFar, found_in_script, with_all}
+use Rattle.trac_checker.specs.FoundSoFar.{FoundSoFar, found_in_script, with_all, with_names}
 use Rattle.trac_checker.specs.Warned.{names_of}
 use Rattle.trac_checker.specs.WatchedRuns.{WatchedSoFar, Watches, WatchesRun, WatchesSteps, not_begun}
 
@@ -57,10 +57,10 @@ module _ {A : Type 0} (input : Text) (start : MachineState) (bytes : Stream) (ol
       }
 
 -- the step with which the run is over
-pub watched-over : {A : Type 0} (input : Text) (room allowance : ℕ) (bytes : Stream) (old new : Moment) (watch told kept : Watch A) (found more : FoundSoFar) (fate : Fate) (report : Report) → old.machine.room ≡ room → old.machine.allowance ≡ allowance → IsWatched input (made room allowance) bytes old watch found → Watches input old.machine new.machine watch told → KeepsRun told kept → more ≡ with_all (reverse (map said told.warnings.items)) found → Answers old (Some fate) new → report ≡ report_of fate new.machine → WatchesRun A input room allowance bytes new.source (names_of kept.names.items) more.counts report
-watched-over {A} input room allowance bytes old new watch told kept found more fate report room_is allowance_is so watches keeps finds answers report_is =
+pub watched-over : {A : Type 0} (input : Text) (room allowance : ℕ) (bytes : Stream) (old new : Moment) (watch told kept : Watch A) (found more whole : FoundSoFar) (fate : Fate) (report : Report) → old.machine.room ≡ room → old.machine.allowance ≡ allowance → IsWatched input (made room allowance) bytes old watch found → Watches input old.machine new.machine watch told → KeepsRun told kept → more ≡ with_all (reverse (map said told.warnings.items)) found → whole ≡ with_names input more → Answers old (Some fate) new → report ≡ report_of fate new.machine → WatchesRun A input room allowance bytes new.source (names_of kept.names.items) whole.counts report
+watched-over {A} input room allowance bytes old new watch told kept found more whole fate report room_is allowance_is so watches keeps finds whole_is answers report_is =
     let start = made room allowance in
-    subst (WatchesRun A input room allowance bytes new.source (names_of kept.names.items) more.counts) (sym report_is) (record {
+    subst (WatchesRun A input room allowance bytes new.source (names_of kept.names.items) whole.counts) (sym report_is) (record {
       first = so.first;
       fresh = so.fresh;
       count = so.count;
@@ -75,5 +75,5 @@ watched-over {A} input room allowance bytes old new watch told kept found more f
           reports-made start refl fate (course_to start bytes.bytes [] new) (report_of fate new.machine) refl
           (reported start bytes.bytes [] old new room_is allowance_is so.course fate answers);
       names_are = refl;
-      found_is = refl;
+      found_is = ap (λ (f : FoundSoFar). f.counts) whole_is;
     })

@@ -7,7 +7,8 @@ use Rattle.std.specs.Map.{lookup}
 use Rattle.std.specs.Ordering.{nat_cmp, on, then_cmp}
 use Rattle.std.specs.declared.cmp.Ordering.{Ordering}
 use Rattle.trac_language.specs.Text.{Text}
-use Rattle.trac_warnings.specs.Findings.{is_no_form, once_more, texts_of, with_text}
+use Rattle.trac_warnings.specs.Findings.{is_noted, is_of_form, once_more, texts_of, with_text}
+use Rattle.trac_warnings.specs.Misspelled.{misspelled_warnings}
 use Rattle.trac_warnings.specs.Script.{script_warnings}
 use Rattle.trac_warnings.specs.Watched.{Said}
 use Rattle.trac_warnings.specs.contracts.origin.OriginOrd.TheImpl as origin
@@ -21,34 +22,35 @@ abbrev pub said_cmp : Said → Said → Ordering
 said_cmp = then_cmp (on (λ s. s.origin) (origin.ghosts).cmp) (then_cmp (on (λ s. s.suspicion) (suspicion.ghosts).cmp)
     (then_cmp (on (λ s. s.count) nat_cmp) (on (λ s. s.text) (slice_cmp nat_cmp))))
 
--- what was found, in the order of what is said; and the names of which it was said that no form has them
+-- what was found, in the order of what is said; and the names of the forms that got a warning of which each form gets
+-- one
 pub record FoundSoFar : Type 0 where
   pub counts : Found
-  pub missing : List Text
+  pub told : List Text
 
 -- nothing was found yet
 abbrev pub nothing_found : FoundSoFar
-nothing_found = record { counts = []; missing = [] }
+nothing_found = record { counts = []; told = [] }
 
--- whether `s` says that no form has a name, and that was said of the name before
+-- whether `s` is of those of which each form gets one, and its form got one before
 abbrev pub is_said_again : Said → List Text → Bool
-is_said_again s missing = is_no_form s.suspicion && list_any (is_at (slice_cmp nat_cmp s.text)) missing
+is_said_again s told = is_of_form s.suspicion && list_any (is_at (slice_cmp nat_cmp s.text)) told
 
--- the counts with `s` once more, unless `s` says again that no form has a name
+-- the counts with `s` once more, unless its form got one before
 abbrev pub counts_with : (is_again : Bool) → Said → Found → Found
 counts_with true s counts = counts
 counts_with false s counts = insert_entry said_cmp counts s (once_more (lookup (is_at (said_cmp s)) counts))
 
--- the names of which it was said that no form has them, with `name` if that is said of it
-abbrev pub missing_with : (is_no_form : Bool) → Text → List Text → List Text
-missing_with true name missing = with_text name missing
-missing_with false name missing = missing
+-- the names of the forms that got such a warning, and those that no function has, with `name` if it is noted
+abbrev pub told_with : (is_noted : Bool) → Text → List Text → List Text
+told_with true name told = with_text name told
+told_with false name told = told
 
 -- what was found, with what a warning says
 abbrev pub with_said : Said → FoundSoFar → FoundSoFar
 with_said s old = record {
-  counts = counts_with (is_said_again s old.missing) s old.counts;
-  missing = missing_with (is_no_form s.suspicion) s.text old.missing;
+  counts = counts_with (is_said_again s old.told) s old.counts;
+  told = told_with (is_noted s.suspicion) s.text old.told;
 }
 
 -- what was found, with what each of several warnings says, one after another
@@ -60,6 +62,11 @@ with_all (s ∷ more) old = with_all more (with_said s old)
 abbrev pub found_in_script : Text → FoundSoFar
 found_in_script script = with_all (script_warnings script) nothing_found
 
+-- what was found in a run of a script, with the names in the script that are nearly those of functions, and that no
+-- call had that was performed
+abbrev pub with_names : Text → FoundSoFar → FoundSoFar
+with_names script old = with_all (misspelled_warnings script) old
+
 -- what was found, as `findings` holds it
 abbrev pub found_in : {A : Type 0} → Findings A → FoundSoFar
-found_in findings = record { counts = found_of findings.counts.entries; missing = texts_of findings.missing }
+found_in findings = record { counts = found_of findings.counts.entries; told = texts_of findings.told }

@@ -11,7 +11,7 @@ use Rattle.trac_warnings.specs.Looked.{Looks}
 use Rattle.trac_warnings.specs.Told.{TellsAll}
 use Rattle.trac_warnings.specs.Watched.{IsFresh, Kept, KeepsPlaces, KeepsRun, Moves, Reads, Stays, said}
 use Rattle.trac_warnings.specs.declared.watch.Watch.{Watch}
-use Rattle.trac_checker.specs.FoundSoFar.{FoundSoFar, found_in_script, with_all}
+use Rattle.trac_checker.specs.FoundSoFar.{FoundSoFar, found_in_script, with_all, with_names}
 use Rattle.trac_checker.specs.Warned.{Found, names_of}
 
 -- a watch looked at a machine before a step, and told of the machine after it; `A` is where its lists are
@@ -65,7 +65,7 @@ not_begun input start watch = record { at = start; watch = watch; found = found_
 
 -- the definition's run in `room` cells and with at most `allowance` steps, over a source with the bytes `old`, was
 -- watched: `input` is the script whose places are told, `names` are those of the forms that were defined, and `found`
--- is what was found, in the run and in how the script is written
+-- is what was found, in the run, in how the script is written, and in the names of its calls
 pub record WatchesRun
     (A : Type 0) (input : Text) (room allowance : ℕ) (old new : Stream) (names : List Text) (found : Found)
     (report : Report)
@@ -82,4 +82,4 @@ pub record WatchesRun
   pub peak : report.peak ≡ after.at.machine.peak
   pub reports : Reports report.fate (course (made room allowance) old [] new after.at.written) report
   pub names_are : names ≡ names_of after.watch.names.items
-  pub found_is : found ≡ after.found.counts
+  pub found_is : found ≡ (with_names input after.found).counts

@@ -6,7 +6,7 @@ ghost use Rattle.trac_events.specs.Places.{behind_text, first_place};
 ghost use Rattle.trac_views.specs.Told.{is_fault};
 ghost use Rattle.trac_checker.specs.Warned.{fault_end, form_named, found_of, names_of, summary_text};
 ghost use Rattle.trac_checker.specs.Warned.{warning_line, warning_text};
-ghost use Rattle.trac_checker.specs.FoundSoFar.{found_in, found_in_script, with_all};
+ghost use Rattle.trac_checker.specs.FoundSoFar.{found_in, found_in_script, with_all, with_names};
 ghost use Rattle.trac_checker.specs.WatchedRuns.{WatchesRun};
 ghost use Rattle.trac_warnings.specs.Watched.{KeepsRun, said};
 
@@ -16,7 +16,7 @@ use std::alloc::{AllocError, Allocator};
 use trac_core::{Cell, Machine, Report, Source};
 use trac_events::Place;
 use trac_views::{is_fault, push, push_end, push_number};
-use trac_warnings::{Findings, Warning, Watch, look_at_script};
+use trac_warnings::{Findings, Warning, Watch, look_at_names, look_at_script};
 
 /// A run that was watched, and what was found.
 #[derive(Drop)]
@@ -57,6 +57,7 @@ pub fn watched<A: Allocator + Copy, I: Source>(
         watch.tell(&before, &machine, input)?;
         keep_warnings(&mut watch, &mut findings)?;
         if let Some(fate) = fate {
+            add_names(&mut findings, alloc, input)?;
             let report = Report {
                 fate,
                 steps: machine.steps(),
@@ -78,10 +79,35 @@ fn of_script<A: Allocator + Copy>(alloc: A, input: &[u8]) -> Result<Findings<A>,
     let mut findings = Findings::new(alloc);
     let mut warnings = Vec::new(alloc);
     look_at_script(&mut warnings, alloc, input)?;
+    add_all(&mut findings, warnings)?;
+    Ok(findings)
+}
+
+// Adds the names in a script that are nearly those of functions, and that no call had that was performed.
+fn add_names<A: Allocator + Copy>(
+    findings: &mut Findings<A>,
+    alloc: A,
+    input: &[u8],
+) -> Result<(), AllocError>
+    ensures { OnOk result (found_in findings.new ≡ with_names input.now (found_in findings.old)) }
+{
+    let mut warnings = Vec::new(alloc);
+    look_at_names(&mut warnings, alloc, input)?;
+    add_all(findings, warnings)
+}
+
+// Adds warnings, the first of them first.
+fn add_all<A: Allocator + Copy>(
+    findings: &mut Findings<A>,
+    warnings: Vec<Warning<A>, A>,
+) -> Result<(), AllocError>
+    ensures { OnOk result (found_in findings.new ≡
+        with_all (map said warnings.items) (found_in findings.old)) }
+{
     for warning in warnings {
         findings.add(warning)?;
     }
-    Ok(findings)
+    Ok(())
 }
 
 // Keeps the warnings of a step, the last first.

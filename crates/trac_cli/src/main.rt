@@ -3,7 +3,7 @@
 #![tactic(auto)]
 
 ghost use Rattle.std.specs.Prelude.{◌≡◌};
-ghost use Rattle.trac_lines.specs.Lines.{status_of};
+ghost use Rattle.trac_command.specs.Lines.{status_of};
 
 mod serve;
 #[cfg(test)]
@@ -14,11 +14,10 @@ use serve::{NoMemory, serve};
 use std::process::ExitCode;
 use std::rt::Env;
 use std::{env, io};
-use trac_core::{Input, Output, Report};
-use trac_lines::{
-    fault_line, memory_line, refused, refused_words, report_line, status, write_line,
+use trac_command::{
+    Settings, fault_line, memory_line, refused, refused_words, report_line, status, write_line,
 };
-use trac_words::Settings;
+use trac_core::{Input, Output, Report};
 use words::settings_from;
 
 // The status if there is no memory for the block.

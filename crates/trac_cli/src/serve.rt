@@ -7,9 +7,9 @@ ghost use Rattle.trac_core.specs.Machine.{reported_output_failures};
 
 use std::alloc::Global;
 use thiserror::Error;
+use trac_command::Settings;
 use trac_core::{Machine, Report, Sink, Source};
 use trac_space::make_block;
-use trac_words::Settings;
 
 /// There is no memory for the block of cells. Nothing was read or written.
 #[derive(Debug, Drop, Error)]

@@ -7,10 +7,9 @@ use clap::error::ErrorKind;
 use std::alloc::{AllocError, Global};
 use std::process::Abort;
 use std::test::Fail;
+use trac_command::{Settings, error_status, fault_line, memory_line, report_line, status};
 use trac_core::{Next, Report, SliceSink, SliceSource, Source};
-use trac_lines::{error_status, fault_line, memory_line, report_line, status};
 use trac_space::make_block;
-use trac_words::Settings;
 
 const HELLO: &[u8] = b"#(ps,hello)'";
 

@@ -1,13 +1,13 @@
 //! The program's words.
 ghost use Rattle.std.specs.Prelude.{◌≡◌, IfOk, IfErr, map, string_bytes, true};
 ghost use Rattle.clap.specs.Words.{FailsBy, fault_of, kind_of, matches_of, takes};
-ghost use Rattle.trac_words.specs.CommandLine.{AreValuesOf, HasDefaults};
+ghost use Rattle.trac_command.specs.CommandLine.{AreValuesOf, HasDefaults};
 ghost use Rattle.trac_cli.specs.CommandLine.{trac_command};
 
 use clap::Error;
 use clap::error::ErrorKind;
 use std::alloc::Global;
-use trac_words::Settings;
+use trac_command::Settings;
 
 /// Reads the settings from the program's words, its name first: `trac [--cells N] [--steps N]
 /// [--report]`. The defaults are 65536 cells, 1000000 steps and no report. The error is clap's: for words
@@ -23,5 +23,5 @@ pub fn settings_from(alloc: Global, words: Vec<String>) -> Result<Settings, Erro
 {
     let about = "Runs a TRAC T-64 script from standard input";
     let usage = "trac [OPTIONS] < SCRIPT";
-    trac_words::settings_from(alloc, "trac", about, usage, "1000000", true, words)
+    trac_command::settings_from(alloc, "trac", about, usage, "1000000", true, words)
 }

@@ -23,3 +23,4 @@ pub mod OpenCalls
 pub mod IdlingSteps
 pub mod ListedTexts
 mod Imports
+pub mod Answering

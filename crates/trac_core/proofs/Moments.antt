@@ -1,5 +1,5 @@
 -- A run of the machine, moment by moment, beside the run of the definition.
-use Rattle.trac_core.proofs.Imports.{◌≡◌, ℕ, zero, suc, ◌+◌, ◌<◌, ◌≤◌, max, Bool, true, false, [], ◌++◌, refl, sym, ap, ◌∙◌, subst, append_assoc, arith, Text, Memory, size, step, need, reads_to_end, Stream, MachineState, Moment, moment, ending, state_with, state_of, GoesOn, Passes, PassesTimes, peak_after, passed}
+use Rattle.trac_core.proofs.Imports.{◌≡◌, ℕ, zero, suc, ◌+◌, ◌<◌, ◌≤◌, max, Bool, true, false, [], ◌++◌, refl, sym, ap, ◌∙◌, subst, append_assoc, arith, Text, Memory, size, step, need, reads_to_end, Stream, MachineState, Moment, moment, ending, state_with, state_of, GoesOn, Passes, peak_after}
 use Rattle.trac_laws.proofs.Reached.{Reached, reached_start, reached_next}
 use Rattle.trac_laws.proofs.ReachedWhileReading.{ReachedAnywhere, anywhere_start, anywhere_next}
 
@@ -76,20 +76,3 @@ goes_on-passes m middle source written allowed fits pass =
 pub peak_after-same : (n cells same peak : ℕ) → same ≤ cells → peak_after n same (max peak cells) ≡ peak_after (suc n) cells peak
 peak_after-same zero cells same peak e = refl
 peak_after-same (suc n) cells same peak e = omega arith
-
-pub course-passes : (n : ℕ) (start : MachineState) (bytes before : Text) (m : MachineState) (target : Memory) (source : Stream) (written : Text) → m.room ≡ start.room → size m.memory ≤ m.room → m.steps + n ≤ m.allowance → PassesTimes n m.memory target → OnCourse start bytes before (moment m source written) → OnCourse start bytes before (moment (passed n target m) source written)
-course-passes zero start bytes before m target source written room_is fits allowed same course =
-    let steps : m.steps ≡ m.steps + 0 = omega arith in
-    subst (λ n. OnCourse start bytes before (moment (record m { memory = target; steps = n }) source written)) steps
-    (subst (λ memory. OnCourse start bytes before (moment (record m { memory = memory }) source written)) same course)
-course-passes (suc n) start bytes before m target source written room_is fits allowed passes course =
-    let middle = passes.0 in
-    let pass = passes.1.0 in
-    let next = one_passed middle m in
-    let smaller = pass.no_larger in
-    let here = course-more start bytes before [] (moment m source written) (moment next source written) room_is refl course (goes_on-passes m middle source written (omega arith) fits pass) in
-    let later = course-passes n start bytes before next target source written room_is (omega arith) (omega arith) passes.1.1 here in
-    let steps : m.steps + 1 + n ≡ m.steps + suc n = omega arith in
-    let peak = peak_after-same n (size m.memory) (size middle) m.peak smaller in
-    subst (λ p. OnCourse start bytes before (moment (record m { memory = target; steps = m.steps + suc n; peak = p }) source written)) peak
-    (subst (λ k. OnCourse start bytes before (moment (record m { memory = target; steps = k; peak = peak_after n (size middle) (max m.peak (size m.memory)) }) source written)) steps later)

@@ -1,11 +1,11 @@
 -- A call that is performed, over the contents of a workspace.
-use Rattle.trac_core.proofs.Imports.{failing_state_of, StopsAtInput, StopsAtOutput, ◌≡◌, ◌≢◌, ℕ, ◌+◌, ◌-◌, ◌<◌, ◌≤◌, max, Bool, true, false, not, ◌&&◌, ◌||◌, List, [], ◌∷◌, ◌++◌, length, take, drop, All, Option, Some, None, refl, sym, ap, ◌∙◌, subst, arith, append-nil, length-append, ◌==◌, slice_get, unwrap_or, nat_le, unwrap_or-slice_get, list_any, length-map, length-drop, get_or_append_left, drop-append_seam, take-append_seam, take-length, Mode, Active, Function, ReadString, ReadCharacter, ChangeMeta, PrintString, PrintForm, Halt, Fate, Workspace, Steps, InputFailed, OutputFailed, Text, Form, function_named, Input, State, argument, size, Answer, Gives, Ends, meaning_of, meaning, built, deliver, perform, step, need, is_read_string, reads_last, reads_to_end, Cell, Byte, flat_text, text_of_cells, character_of, IsByte, IsLastCall, Contents, used, IsSound, Stream, Full, AtEnd, InFront, Unscanned, Null, Over, texts_of, no_neutral, neutral_of, memory_of, mode_of, mode_at, is_active_mode, arguments_at, texts_from, world, IsValue, IsHeld, IsPlaced, IsDefined, Makes, is_plain, performs, touches_device, calls_device, needs_device, silent, MachineState, moment, ending, failing, state_with, state_of, failing_state_of, EndsRun, input_failures, output_failures, scene, TriedCall, ClosesCall, function_at, delivered, settled, AnswersCall, IsValueFrom, Stands, fate_after, or_right, true≢false}
+use Rattle.trac_core.proofs.Imports.{take-take, if◌then◌else◌, failing_state_of, StopsAtInput, StopsAtOutput, ◌≡◌, ◌≢◌, ℕ, ◌+◌, ◌-◌, ◌<◌, ◌≤◌, max, Bool, true, false, not, ◌&&◌, ◌||◌, List, [], ◌∷◌, ◌++◌, length, take, drop, All, Option, Some, None, refl, sym, ap, ◌∙◌, subst, arith, append-nil, length-append, ◌==◌, slice_get, unwrap_or, nat_le, unwrap_or-slice_get, list_any, length-map, length-drop, get_or_append_left, drop-append_seam, take-append_seam, take-length, Mode, Active, Function, ReadString, ReadCharacter, ChangeMeta, PrintString, PrintForm, Halt, Fate, Workspace, Steps, InputFailed, OutputFailed, Text, Form, function_named, Input, State, argument, size, Answer, Gives, Ends, meaning_of, meaning, built, deliver, perform, step, need, is_read_string, reads_last, reads_to_end, Cell, Byte, flat_text, text_of_cells, character_of, IsByte, IsLastCall, Contents, used, IsSound, Stream, Full, AtEnd, InFront, Unscanned, Null, Over, texts_of, no_neutral, neutral_of, memory_of, mode_of, mode_at, is_active_mode, arguments_at, texts_from, world, IsValue, IsHeld, IsPlaced, IsDefined, Makes, is_plain, performs, touches_device, calls_device, needs_device, silent, MachineState, moment, ending, failing, state_with, state_of, failing_state_of, EndsRun, input_failures, output_failures, scene, TriedCall, ClosesCall, function_at, delivered, settled, AnswersCall, IsValueFrom, Stands, fate_after, or_right, true≢false}
 use Rattle.trac_language.specs.declared.mode.Mode.TheVariants.{Neutral as NeutralMode}
 use Rattle.trac_laws.proofs.Rules.{rule_end}
 use Rattle.trac_space.proofs.Texts.{text_of_cells-append}
 use Rattle.trac_functions.specs.declared.arguments.CallResult.{CallResult}
 use Rattle.trac_functions.proofs.FlatLemmas.{with_cells-append, with_cells-text, text_of-flat, neutral_of-innermost, opened, texts_of-some, grown-mode, arguments-call_at, size-used}
-use Rattle.trac_functions.proofs.ArgumentLemmas.{bytes-flat}
+use Rattle.trac_functions.proofs.ArgumentLemmas.{bytes-flat, flat-bytes}
 
 -- the contents without the innermost call
 abbrev pub closed : Contents → ℕ → Contents
@@ -165,6 +165,13 @@ pub delivered-neutral : (mode : Mode) (forced : Bool) (value : Text) (place : �
 delivered-neutral NeutralMode false value place w h = refl
 delivered-neutral NeutralMode true value place w h = absurd cc
 delivered-neutral Active forced value place w h = absurd (true≢false (sym (or_right forced true refl) ∙ h))
+
+-- a value that leaves the end of the neutral string with its call is delivered
+pub moved-delivered : (mode : Mode) (forced scanned : Bool) (value : List Cell) (place from : ℕ) (w : Contents) → All IsByte value → place ≤ from → scanned ≡ (forced || is_active_mode mode) → (if scanned then record w { active = value ++ w.active; neutral = take place w.neutral } else record w { neutral = take place w.neutral ++ value }) ≡ delivered mode forced (text_of_cells value) place (record w { neutral = take from w.neutral })
+moved-delivered mode forced true value place from w bytes order is =
+    sym (rw (delivered-active mode forced (text_of_cells value) place (record w { neutral = take from w.neutral }) (sym is), flat-bytes value bytes, take-take place from w.neutral order) refl)
+moved-delivered mode forced false value place from w bytes order is =
+    sym (rw (delivered-neutral mode forced (text_of_cells value) place (record w { neutral = take from w.neutral }) (sym is), flat-bytes value bytes, take-take place from w.neutral order) refl)
 
 -- the function's name and what follows it
 pub whole-arguments : (neutral : List Cell) (place : ℕ) (rest : List Text) → rest ≡ drop 1 (arguments_at neutral place) → argument (arguments_at neutral place) 0 ∷ rest ≡ arguments_at neutral place

@@ -2,14 +2,16 @@
 use Rattle.trac_functions.specs.Flat.{in_first}
 use Rattle.trac_space.specs.declared.cell.Cell.{Cell}
 use Rattle.trac_space.specs.declared.cell.Cell.TheVariants.{Byte as ByteCell, Call, Comma, Gap, Head}
-use Rattle.trac_core.proofs.Imports.{◌≡◌, ◌≢◌, ℕ, ◌+◌, ◌<◌, Bool, true, false, List, [], ◌∷◌, ◌++◌, length, take, drop, slice_get, get_or, Option, Some, None, refl, sym, ap, ◌∙◌, subst, arith, codes, take-append-drop, take_more, slice_get-get_or, Mode, Item, Function, PrintString, PrintForm, Text, Form, before_pointer, after_pointer, OpenCall, Memory, Input, arguments, argument, World, Meaning, Gives, Ends, on_form, show, show_form, meaning, meaning_of, form_of_call, Rule, EndCall, rule, function_of, world_of, perform, end_call, follow, step, with_active, IsLastCall, text_of_cells, Contents, IsSound, memory_of, mode_at, arguments_at, world, state_with, performed_by, performs, prints_output, function_at, display, shown, printed_in, zero, suc, ◌≤◌, ◌⊎◌, inl, inr, length-drop, texts_of}
+use Rattle.trac_core.proofs.Imports.{◌≡◌, ◌≢◌, ℕ, ◌+◌, ◌<◌, Bool, true, false, List, [], ◌∷◌, ◌++◌, length, take, drop, slice_get, get_or, Option, Some, None, refl, sym, ap, ◌∙◌, subst, arith, codes, take-append-drop, take_more, slice_get-get_or, Mode, Item, Function, PrintString, PrintForm, Text, Form, before_pointer, after_pointer, OpenCall, Memory, Input, arguments, argument, World, Meaning, Gives, Ends, on_form, show, show_form, meaning, meaning_of, form_of_call, Rule, EndCall, rule, function_of, world_of, perform, end_call, follow, step, with_active, IsLastCall, text_of_cells, Contents, IsSound, memory_of, mode_at, arguments_at, world, state_with, performed_by, performs, prints_output, function_at, display, shown, printed_in, zero, suc, ◌≤◌, ◌⊎◌, inl, inr, length-drop, texts_of, Fate, Stream, ending, scene, AnswersCall, Null, true≢false}
 use Rattle.std.proofs.lemmas.List.{length-append}
 use Rattle.trac_language.specs.declared.item.Item.TheVariants.{Byte}
 use Rattle.std.specs.Prelude.{◌&&◌, if◌then◌else◌, is_none, nat_lt}
 use Rattle.trac_core.specs.Machine.{MachineState}
 use Rattle.trac_core.specs.Session.{next_function, next_printed, output_after, step_prints}
 use Rattle.trac_laws.proofs.Shape.{Reading, Stopped, Given, Shape, Reads, Ended, Does, shape}
-use Rattle.trac_core.proofs.FormDisplay.{show-append}
+use Rattle.trac_core.specs.Session.{call_prints}
+use Rattle.trac_core.proofs.PrintCalls.{answers-print}
+use Rattle.trac_core.proofs.FormDisplay.{show-append, answers-display}
 use Rattle.trac_core.proofs.Performing.{closed, performs-closed, step-performs}
 
 -- ---- how long a display is
@@ -148,3 +150,28 @@ next-quiet m f input is quiet = go (is_none m.fate && nat_lt m.steps m.allowance
     go : (going : Bool) → f ≡ (if going then performs m.memory else None) → [] ≡ (if going then step_prints m.memory input else [])
     go true is = step-prints-quiet m.memory input (ap prints_output (sym is) ∙ quiet)
     go false is = refl
+
+pub next-allowed : (m : MachineState) (f : Option Function) → f ≡ next_function m → prints_output f ≡ true → (m.fate ≡ None) × (m.steps < m.allowance)
+next-allowed m f is prints = go m.fate (nat_lt m.steps m.allowance) refl refl is
+  where
+    go : (fate : Option Fate) (less : Bool) → m.fate ≡ fate → nat_lt m.steps m.allowance ≡ less → f ≡ (if is_none fate && less then performs m.memory else None) → (m.fate ≡ None) × (m.steps < m.allowance)
+    go None true none less is = (none, grind (arith, less))
+    go None false none less is = absurd (let no = ap prints_output is in cc)
+    go (Some fate) less none less_is is = absurd (let no = ap prints_output is in cc)
+
+-- ---- a call that prints, whatever is made of what it prints
+
+pub answers-printing : (w : Contents) (place : ℕ) → IsSound w → IsLastCall w.neutral place → prints_output (function_at w.neutral place) ≡ true → (meta : ℕ) (source : Stream) (written : Text) → AnswersCall place (scene w meta source written) (Null 0) (scene w meta source (written ++ call_prints w place meta (ending source.bytes)))
+answers-printing w place sound innermost prints meta source written = go (function_at w.neutral place) refl prints
+  where
+    go : (f : Option Function) → function_at w.neutral place ≡ f → prints_output f ≡ true → AnswersCall place (scene w meta source written) (Null 0) (scene w meta source (written ++ call_prints w place meta (ending source.bytes)))
+    go None is e = absurd (true≢false (sym e))
+    go (Some PrintString) is e =
+        subst (λ text. AnswersCall place (scene w meta source written) (Null 0) (scene w meta source (written ++ text)))
+        (string-prints (function_at w.neutral place) (arguments_at w.neutral place) (world w.forms meta (ending source.bytes)) is)
+        (answers-print w place (record { sound = sound; innermost = innermost; names = is }) meta source written)
+    go (Some PrintForm) is e =
+        subst (λ text. AnswersCall place (scene w meta source written) (Null 0) (scene w meta source (written ++ text)))
+        (form-prints (function_at w.neutral place) (arguments_at w.neutral place) (world w.forms meta (ending source.bytes)) is)
+        (answers-display w place (record { sound = sound; innermost = innermost; names = is }) meta source written)
+    go (Some _) is e = absurd cc

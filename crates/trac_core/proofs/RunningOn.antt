@@ -1,17 +1,10 @@
--- A run of a machine whose parts stand apart, turn by turn beside the run of the definition.
-use Rattle.trac_core.proofs.Imports.{◌≡◌, ◌≢◌, ℕ, ◌+◌, ◌-◌, ◌<◌, ◌≤◌, max, ◌⊎◌, inl, inr, [], ◌++◌, cells, Some, None, refl, sym, ap, ◌∙◌, subst, arith, Fate, Steps, Text, size, Stream, Contents, used, IsSound, memory_of, Report, scene, Tried, MachineState, moment, counted, Resumes, KeepsFormsAndMeta, LeavesMemory, Advances, peak_after, passed, running}
+-- A run with a source and a sink, step by step beside the run of the definition.
+use Rattle.trac_core.proofs.Imports.{◌≡◌, ◌≢◌, ℕ, zero, suc, ◌+◌, ◌-◌, ◌≤◌, max, ◌⊎◌, ⊎_elim, inl, inr, [], Option, Some, None, unwrap_or, refl, sym, ap, ◌∙◌, subst, arith, Fate, Steps, OutputFailed, Text, Stream, Sent, Contents, used, memory_of, MachineState, Moment, moment, KeepsSettings, Resumes, LeavesMemory, StopsAtAllowance, input_failures, output_failures, Advances, StepsAlone, Standing, standing, PerformedWith, GoesBy, StepsBy, StopsBy, ◌<◌}
 use Rattle.trac_functions.proofs.FlatLemmas.{size-used}
-use Rattle.trac_core.specs.declared.machine.Counters.{Counters}
-use Rattle.trac_core.proofs.Moments.{OnCourse, course-more, course-passes}
+use Rattle.trac_core.proofs.Moments.{OnCourse, course-none, course-more}
 use Rattle.trac_core.proofs.Reported.{reported, left-behind, report_of, course_to}
-use Rattle.trac_core.proofs.StepsInRow.{passes-smaller, peak-some, tried-scanned}
-use Rattle.trac_core.proofs.Scanning.{scans-idling}
-use Rattle.trac_core.specs.StepsInRow.{idling_begun, idling_loaded}
-use Rattle.trac_core.proofs.IdlingSteps.{idling-advances, idling-sound}
-
--- the counters where `left` steps are left
-abbrev pub with_left : (allowance left peak : ℕ) → Counters
-with_left allowance left peak = record { allowance = allowance; steps = allowance - left; peak = peak }
+use Rattle.trac_core.proofs.Sending.{sent-more}
+use Rattle.trac_core.proofs.StepsInRow.{passes-smaller}
 
 -- a need is that of the next step, or is counted as that is
 abbrev pub IsNeed : (need cells peak : ℕ) → Type 0
@@ -32,71 +25,117 @@ need-counted done need peak top w new passes known is =
     go smaller (inl same) = (omega arith, omega arith)
     go smaller (inr counted) = let a = counted.0 in let b = counted.1 in (omega arith, omega arith)
 
-module _ (start : MachineState) (bytes before : Text) (w new : Contents) (meta allowance left peak : ℕ) (room_is : w.room ≡ start.room) (few : left ≤ allowance) where
-  -- steps that perform no call
-  pub course-run : (done need top : ℕ) (source : Stream) (written : Text) → new.room ≡ w.room → IsSound w → done ≤ left → 0 < done → Advances done w new → IsNeed need (used w) peak → top ≡ max peak need → OnCourse start bytes before (moment (running w meta (with_left allowance left peak)) source written) → OnCourse start bytes before (moment (running new meta (with_left allowance (left - done) top)) source written)
-  course-run done need top source written stays sound within some passes known is course =
-      let m = running w meta (with_left allowance left peak) in
-      let target = memory_of meta new in
-      let all = course-passes done start bytes before m target source written room_is (omega (arith, size-used meta w)) (omega arith) (passes meta) course in
-      let steps : allowance - left + done ≡ allowance - (left - done) = omega arith in
-      let peaks : peak_after done (size (memory_of meta w)) peak ≡ top = ap (λ k. peak_after done k peak) (size-used meta w) ∙ peak-some done (used w) need peak some known ∙ sym is in
-      let same : passed done target m ≡ running new meta (with_left allowance (left - done) top) = λ i. record { memory = target; room = sym stays i; allowance = allowance; steps = steps i; peak = peaks i; fate = None } in
-      subst (λ m. OnCourse start bytes before (moment m source written)) same all
+module _ {I O L : Type 0} (tells : I → Type 0) (stream : I → Stream) (failures : I → ℕ) (told flushed : O → Type 0) (written : O → Text) (lent : O → L) (broken : O → ℕ) where
+  abbrev moment_of : Standing I O → Moment
+  moment_of s = moment s.machine (stream s.source) (written s.sink)
 
-  -- a step that performs a call, or loads the idling procedure
-  pub course-step : (after need top : ℕ) (taken : Text) (old_source new_source : Stream) (old_written new_written : Text) → new.room ≡ w.room → 0 < left → top ≡ max peak need → old_source.bytes ≡ taken ++ new_source.bytes → Tried (scene w meta old_source old_written) None need (scene new after new_source new_written) → OnCourse start bytes before (moment (running w meta (with_left allowance left peak)) old_source old_written) → OnCourse start bytes before (moment (running new after (with_left allowance (left - 1) top)) new_source new_written)
-  course-step after need top taken old_source new_source old_written new_written stays some is took tried course =
-      let m = running w meta (with_left allowance left peak) in
-      let target = memory_of after new in
-      let allowed : allowance - left < allowance = omega arith in
-      let all = course-more start bytes before taken (moment m old_source old_written) (moment (counted m target need None) new_source new_written) room_is took course (tried m refl refl allowed) in
-      let steps : allowance - left + 1 ≡ allowance - (left - 1) = omega arith in
-      let same : counted m target need None ≡ running new after (with_left allowance (left - 1) top) = λ i. record { memory = target; room = sym stays i; allowance = allowance; steps = steps i; peak = sym is i; fate = None } in
-      subst (λ m. OnCourse start bytes before (moment m new_source new_written)) same all
+  -- no device has failed up to now, and the run is that of the definition
+  record RunsOn (start now : Standing I O) : Type 0 where
+    room : now.machine.room ≡ start.machine.room
+    allowance : now.machine.allowance ≡ start.machine.allowance
+    inputs : failures now.source ≡ failures start.source
+    outputs : broken now.sink ≡ broken start.sink
+    kept : lent now.sink ≡ lent start.sink
+    told_source : tells start.source → tells now.source
+    told_sink : told start.sink → told now.sink
+    sent : Sent told flushed written start.sink now.sink
+    course : tells start.source → told start.sink → OnCourse start.machine (stream start.source).bytes (written start.sink) (moment_of now)
 
-  -- a step at which the run ends
-  pub ends-step : (after need : ℕ) (old_source new_source : Stream) (old_written new_written : Text) (fate : Fate) (report : Report) → allowance ≡ start.allowance → 0 < left → Tried (scene w meta old_source old_written) (Some fate) need (scene new after new_source new_written) → OnCourse start bytes before (moment (running w meta (with_left allowance left peak)) old_source old_written) → report ≡ report_of fate (counted (running w meta (with_left allowance left peak)) (memory_of after new) need (Some fate)) → Resumes start report.fate (course_to start bytes before (moment start new_source new_written)) report
-  ends-step after need old_source new_source old_written new_written fate report allowance_is some tried course is =
-      let m = running w meta (with_left allowance left peak) in
-      let allowed : allowance - left < allowance = omega arith in
-      let told = reported start bytes before (moment m old_source old_written) (moment (counted m (memory_of after new) need (Some fate)) new_source new_written) room_is allowance_is course fate (tried m refl refl allowed) in
-      subst (λ (report : Report). Resumes start report.fate (course_to start bytes before (moment start new_source new_written)) report) (sym is) told
+  runs-first : (start : Standing I O) → RunsOn start start
+  runs-first start =
+      record { room = refl; allowance = refl; inputs = refl; outputs = refl; kept = refl; told_source = λ tells. tells; told_sink = λ told. told; sent = inl refl; course = λ tells told. course-none start.machine (stream start.source) (written start.sink) }
 
-  -- and the memory that it leaves then
-  pub leaves-step : (after need : ℕ) (old_source new_source : Stream) (old_written new_written : Text) (fate : Fate) (report : Report) → 0 < left → fate ≢ Steps → Tried (scene w meta old_source old_written) (Some fate) need (scene new after new_source new_written) → OnCourse start bytes before (moment (running w meta (with_left allowance left peak)) old_source old_written) → report ≡ report_of fate (counted (running w meta (with_left allowance left peak)) (memory_of after new) need (Some fate)) → KeepsFormsAndMeta (memory_of meta w) (memory_of after new) → LeavesMemory report.fate (course_to start bytes before (moment start new_source new_written)) start.memory (report.steps - start.steps) (memory_of after new)
-  leaves-step after need old_source new_source old_written new_written fate report some unspent tried course is keeps =
-      let m = running w meta (with_left allowance left peak) in
-      let allowed : allowance - left < allowance = omega arith in
-      let told = left-behind start bytes before (moment m old_source old_written) (moment (counted m (memory_of after new) need (Some fate)) new_source new_written) course fate (tried m refl refl allowed) (memory_of after new) keeps (λ e. absurd (unspent e)) in
-      subst (λ (report : Report). LeavesMemory report.fate (course_to start bytes before (moment start new_source new_written)) start.memory (report.steps - start.steps) (memory_of after new)) (sym is) told
+  -- a step that needs no device, as one with devices
+  with-devices : (m next : MachineState) (source : I) (sink : O) → StepsAlone m next → PerformedWith tells stream failures told flushed written lent broken (standing m source sink) None (standing next source sink)
+  with-devices m next source sink step =
+      record {
+        answers = λ tells told. step.goes (stream source) (written sink);
+        takes = λ tells. ([], (refl, omega arith));
+        source = (λ tells. tells, omega arith, λ reads. refl);
+        sink = (λ told. told, omega arith, λ prints. refl, refl, λ some. inl refl);
+        unspent = λ e. absurd cc;
+        keeps = λ some. absurd (some refl);
+      }
 
-  pub leaves-allowance : (source : Stream) (written : Text) → left ≡ 0 → OnCourse start bytes before (moment (running w meta (with_left allowance left peak)) source written) → LeavesMemory Steps (course_to start bytes before (moment start source written)) start.memory (allowance - start.steps) (memory_of meta w)
-  leaves-allowance source written none course =
-      let m = running w meta (with_left allowance left peak) in
-      let all : allowance - left ≡ allowance = omega arith in
-      let told = left-behind start bytes before (moment m source written) (moment (counted m m.memory 0 (Some Steps)) source written) course Steps
-      (record { used_up = all; memory = refl; counts = record { steps = omega arith; peak = omega arith }; source = refl; written = refl }) m.memory (refl, refl) (λ _. refl) in
-      subst (λ n. LeavesMemory Steps (course_to start bytes before (moment start source written)) start.memory (n - start.steps) (memory_of meta w)) all told
+  -- a step of a chain
+  step-with : (old new : Standing I O) → StepsBy (PerformedWith tells stream failures told flushed written lent broken) old new → KeepsSettings old.machine new.machine × PerformedWith tells stream failures told flushed written lent broken old None new
+  step-with old new step =
+      ⊎_elim (λ alone. (alone.0.settings, subst (PerformedWith tells stream failures told flushed written lent broken old None) (sym alone.1) (with-devices old.machine new.machine old.source old.sink alone.0)))
+      (λ done. (done.0, done.1)) step
 
-  -- the allowance is used up
-  pub ends-allowance : (source : Stream) (written : Text) → allowance ≡ start.allowance → left ≡ 0 → OnCourse start bytes before (moment (running w meta (with_left allowance left peak)) source written) → Resumes start Steps (course_to start bytes before (moment start source written)) (record { fate = Steps; steps = allowance; peak = peak })
-  ends-allowance source written allowance_is none course =
-      let m = running w meta (with_left allowance left peak) in
-      let all : allowance - left ≡ allowance = omega arith in
-      let told = reported start bytes before (moment m source written) (moment (counted m m.memory 0 (Some Steps)) source written) room_is allowance_is course Steps
-      (record { used_up = all; memory = refl; counts = record { steps = omega arith; peak = omega arith }; source = refl; written = refl }) in
-      subst (λ n. Resumes start Steps (course_to start bytes before (moment start source written)) (record { fate = Steps; steps = n; peak = peak })) all told
+  runs-performed : (start now next : Standing I O) → KeepsSettings now.machine next.machine → PerformedWith tells stream failures told flushed written lent broken now None next → RunsOn start now → RunsOn start next
+  runs-performed start now next settings h i =
+      record {
+        room = settings.room ∙ i.room;
+        allowance = settings.allowance ∙ i.allowance;
+        inputs = omega (arith, i.inputs, h.source.1);
+        outputs = omega (arith, i.outputs, h.sink.1);
+        kept = h.sink.3 ∙ i.kept;
+        told_source = λ tells. h.source.0 (i.told_source tells);
+        told_sink = λ told. h.sink.0 (i.told_sink told);
+        sent = sent-more told flushed written start.sink now.sink next.sink i.told_sink i.sent (h.sink.4 (λ e. absurd cc));
+        course = λ tells told.
+            let took = h.takes (i.told_source tells) in
+            course-more start.machine (stream start.source).bytes (written start.sink) took.0 (moment_of now) (moment_of next) i.room took.1.0 (i.course tells told) (h.answers (i.told_source tells) (i.told_sink told));
+      }
 
-module _ (start : MachineState) (bytes before : Text) (w new : Contents) (meta allowance left peak : ℕ) (room_is : w.room ≡ start.room) (few : left ≤ allowance) where
-  -- the idling procedure is loaded, and its calls are opened
-  pub course-idling : (need top : ℕ) (source : Stream) (written : Text) → IsSound w → w.active ≡ [] → cells w.forms + 11 ≤ w.room → new ≡ idling_begun w → 8 ≤ left → need ≡ cells w.forms + 11 → top ≡ max peak need → OnCourse start bytes before (moment (running w meta (with_left allowance left peak)) source written) → OnCourse start bytes before (moment (running new meta (with_left allowance (left - 8) top)) source written)
-  course-idling need top source written sound none fits is some need_is top_is course =
-      let middle = idling_loaded w in
-      let loads = scans-idling w none in
-      let tried = tried-scanned None w middle (cells w.forms + 11) loads fits meta source written in
-      let loaded = course-step start bytes before w middle meta allowance left peak room_is few meta (cells w.forms + 11) top [] source source written written refl (omega arith) (top_is ∙ ap (max peak) need_is) refl tried course in
-      let begun = course-run start bytes before middle (idling_begun w) meta allowance (left - 1) top room_is (omega arith) 7 (cells w.forms + 11) top source written refl (idling-sound w sound fits) (omega arith) (omega arith) (idling-advances w) (inl (omega arith)) (omega arith) loaded in
-      let steps : left - 1 - 7 ≡ left - 8 = omega arith in
-      subst (λ (w : Contents). OnCourse start bytes before (moment (running w meta (with_left allowance (left - 8) top)) source written)) (sym is)
-      (subst (λ n. OnCourse start bytes before (moment (running (idling_begun w) meta (with_left allowance n top)) source written)) steps begun)
+  runs-on : (n : ℕ) (start now : Standing I O) → GoesBy (PerformedWith tells stream failures told flushed written lent broken) n start now → RunsOn start now
+  runs-on zero start now goes = subst (RunsOn start) (sym goes) (runs-first start)
+  runs-on (suc n) start now goes =
+      let step = step-with goes.0 now goes.1.1 in
+      runs-performed start goes.0 now step.0 step.1 (runs-on n start goes.0 goes.1.0)
+
+  -- one step at most that was made
+  pub one-step : (n : ℕ) (old before new : Standing I O) (fate : Option Fate) → n ≤ 1 → old.machine.steps < old.machine.allowance → GoesBy (PerformedWith tells stream failures told flushed written lent broken) n old before → StopsBy (PerformedWith tells stream failures told flushed written lent broken) (λ memory. ⊥) 1 n before fate new → PerformedWith tells stream failures told flushed written lent broken old fate new × (fate ≡ None → n ≡ 1)
+  one-step zero old before new None few allowed goes why =
+      absurd (⊎_elim (λ wanted. omega arith) (⊎_elim (λ used. let here = subst (λ (s : Standing I O). s.machine.steps ≡ s.machine.allowance) goes used in omega arith) (λ no. no)) why.1)
+  one-step zero old before new (Some fate) few allowed goes why =
+      (subst (λ s. PerformedWith tells stream failures told flushed written lent broken s (Some fate) new) goes why.1, λ e. absurd cc)
+  one-step (suc zero) old before new None few allowed goes why =
+      let step = (step-with goes.0 before goes.1.1).1 in
+      (subst (λ new. PerformedWith tells stream failures told flushed written lent broken old None new) (sym why.0) (subst (λ s. PerformedWith tells stream failures told flushed written lent broken s None before) goes.1.0 step), λ e. refl)
+  one-step (suc zero) old before new (Some fate) few allowed goes why = absurd (let less = why.0 in omega arith)
+  one-step (suc (suc n)) old before new fate few allowed goes why = absurd (omega arith)
+
+  -- the run ended with a fate, and is that of the definition
+  pub record RunEnds (start last : Standing I O) (fate : Fate) : Type 0 where
+    pub reports : tells start.source → told start.sink → Resumes start.machine fate (course_to start.machine (stream start.source).bytes (written start.sink) (moment_of last)) (report_of fate last.machine)
+    pub leaves : tells start.source → told start.sink → LeavesMemory fate (course_to start.machine (stream start.source).bytes (written start.sink) (moment_of last)) start.machine.memory (last.machine.steps - start.machine.steps) last.machine.memory
+    pub input_failed : failures last.source ≡ failures start.source + input_failures None (Some fate)
+    pub output_failed : broken last.sink ≡ broken start.sink + output_failures None (Some fate)
+    pub sent : fate ≢ OutputFailed → Sent told flushed written start.sink last.sink
+    pub told_source : tells start.source → tells last.source
+    pub told_sink : told start.sink → told last.sink
+    pub kept : lent last.sink ≡ lent start.sink
+
+  -- at its last step
+  pub run-ends : (start before last : Standing I O) (fate : Option Fate) (most n : ℕ) → start.machine.steps + most ≡ start.machine.allowance → (fate ≡ None → last.machine.steps ≡ start.machine.steps + n) → GoesBy (PerformedWith tells stream failures told flushed written lent broken) n start before → StopsBy (PerformedWith tells stream failures told flushed written lent broken) (λ memory. ⊥) most n before fate last → RunEnds start last (unwrap_or fate Steps)
+  run-ends start before last None most n most_is counts goes why =
+      let i = subst (RunsOn start) (sym why.0) (runs-on n start before goes) in
+      let used_up : last.machine.steps ≡ last.machine.allowance =
+      ⊎_elim (λ wanted. omega (arith, counts refl, wanted, most_is, i.allowance))
+      (⊎_elim (λ used. subst (λ (s : Standing I O). s.machine.steps ≡ s.machine.allowance) (sym why.0) used) (λ no. absurd no)) why.1 in
+      let stop : StopsAtAllowance (moment_of last) (moment_of last) = record { used_up = used_up; memory = refl; counts = record { steps = omega arith; peak = omega arith }; source = refl; written = refl } in
+      record {
+        reports = λ tells told. reported start.machine (stream start.source).bytes (written start.sink) (moment_of last) (moment_of last) i.room i.allowance (i.course tells told) Steps stop;
+        leaves = λ tells told. left-behind start.machine (stream start.source).bytes (written start.sink) (moment_of last) (moment_of last) (i.course tells told) Steps stop last.machine.memory (refl, refl) (λ e. refl);
+        input_failed = omega (arith, i.inputs);
+        output_failed = omega (arith, i.outputs);
+        sent = λ other. i.sent;
+        told_source = i.told_source;
+        told_sink = i.told_sink;
+        kept = i.kept;
+      }
+  run-ends start before last (Some fate) most n most_is counts goes why =
+      let i = runs-on n start before goes in
+      let h = why.1 in
+      record {
+        reports = λ tells told. reported start.machine (stream start.source).bytes (written start.sink) (moment_of before) (moment_of last) i.room i.allowance (i.course tells told) fate (h.answers (i.told_source tells) (i.told_sink told));
+        leaves = λ tells told. left-behind start.machine (stream start.source).bytes (written start.sink) (moment_of before) (moment_of last) (i.course tells told) fate (h.answers (i.told_source tells) (i.told_sink told)) last.machine.memory (h.keeps (λ e. absurd cc)) (λ e. absurd (h.unspent (ap Some e)));
+        input_failed = omega (arith, i.inputs, h.source.1);
+        output_failed = omega (arith, i.outputs, h.sink.1);
+        sent = λ other. sent-more told flushed written start.sink before.sink last.sink i.told_sink i.sent (h.sink.4 (λ e. other cc));
+        told_source = λ tells. h.source.0 (i.told_source tells);
+        told_sink = λ told. h.sink.0 (i.told_sink told);
+        kept = h.sink.3 ∙ i.kept;
+      }

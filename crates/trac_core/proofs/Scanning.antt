@@ -1,5 +1,5 @@
 -- The rules that perform no call, over the contents of a workspace.
-use Rattle.trac_core.proofs.Imports.{length-map, get_or-map, get_or, seen, ◌≡◌, ◌≢◌, ℕ, ◌+◌, ◌-◌, ◌<◌, true, false, List, [], ◌∷◌, ◌++◌, length, take, drop, map, All, Option, Some, None, refl, sym, ap, ◌∙◌, subst, ⊎_elim, arith, slice_get, MatchOption, is_some, slice_range, cases_eq, drop-map, take-map, length-drop, drop-drop, All-take, All-drop, take-length, Mode, Text, Form, cells, protected, Input, OpenCall, add, begin_argument, Rule, LoadIdling, DeleteLayout, AddProtected, ClearActive, BeginArgument, BeginCall, EndCall, AddCharacter, parenthesis_rule, is_layout, rule, Next, idling, follow, end_need, need_by, step, need, reads_last_by, Cell, Byte, Call, Comma, NoCall, IsLastCall, flat_text, text_of_cells, character_of, IsByte, Contents, used, IsSound, Neutral, with_cell, neutral_of, memory_with, memory_of, state_with, Scans, size, State, performed_by, ending}
+use Rattle.trac_core.proofs.Imports.{length-map, get_or-map, get_or, seen, ◌≡◌, ◌≢◌, ℕ, ◌+◌, ◌-◌, ◌<◌, true, false, List, [], ◌∷◌, ◌++◌, length, take, drop, map, All, Option, Some, None, refl, sym, ap, ◌∙◌, subst, ⊎_elim, arith, slice_get, MatchOption, is_some, slice_range, cases_eq, drop-map, take-map, length-drop, drop-drop, All-take, All-drop, take-length, Mode, Text, Form, cells, protected, Input, OpenCall, add, begin_argument, Rule, LoadIdling, DeleteLayout, AddProtected, ClearActive, BeginArgument, BeginCall, EndCall, AddCharacter, parenthesis_rule, is_layout, rule, Next, idling, follow, end_need, need_by, step, need, reads_last_by, Cell, Byte, Call, Comma, NoCall, IsLastCall, flat_text, text_of_cells, character_of, IsByte, Contents, used, IsSound, Neutral, with_cell, neutral_of, memory_with, memory_of, state_with, Scans, size, State, call_performed_by, ending}
 use Rattle.std.proofs.lemmas.List.{take_all}
 use Rattle.trac_laws.proofs.Rules.{rule_comma, rule_end, rule_sign_last, rule_two_signs_last, rule_sign, rule_two_signs, rule_other}
 use Rattle.trac_functions.proofs.FlatLemmas.{with_cells-append, neutral_of-push, neutral_of-innermost, size-used, with_cells-text, calls-none}
@@ -40,17 +40,17 @@ module _ (old new : Contents) where
   text = text_of_cells old.active
 
   -- a step by this rule
-  pub scans-by : (r : Rule) (needed : ℕ) → rule (text_of_cells old.active) ≡ r → ((meta : ℕ) (input : Input) (output : Text) → follow r (state_with (memory_of meta old) input output) ≡ Next (state_with (memory_of meta new) input output)) → ((meta : ℕ) (input : Input) (output : Text) → need_by r (state_with (memory_of meta old) input output) ≡ needed) → ((meta : ℕ) (input : Input) (output : Text) → reads_last_by r (state_with (memory_of meta old) input output) ≡ false) → ((meta : ℕ) → performed_by r (memory_of meta old).calls ≡ None) → Scans old new needed
+  pub scans-by : (r : Rule) (needed : ℕ) → rule (text_of_cells old.active) ≡ r → ((meta : ℕ) (input : Input) (output : Text) → follow r (state_with (memory_of meta old) input output) ≡ Next (state_with (memory_of meta new) input output)) → ((meta : ℕ) (input : Input) (output : Text) → need_by r (state_with (memory_of meta old) input output) ≡ needed) → ((meta : ℕ) (input : Input) (output : Text) → reads_last_by r (state_with (memory_of meta old) input output) ≡ false) → ((meta : ℕ) → call_performed_by r (memory_of meta old).calls ≡ None) → Scans old new needed
   unfolding step need
   scans-by r needed fits goes needs reads no_call = record {
     goes = λ meta input output. ap (λ r. follow r (state_with (memory_of meta old) input output)) fits ∙ goes meta input output;
     needs = λ meta input output. ap (λ r. need_by r (state_with (memory_of meta old) input output)) fits ∙ needs meta input output;
     reads = λ meta input output. ap (λ r. reads_last_by r (state_with (memory_of meta old) input output)) fits ∙ reads meta input output;
-    no_call = λ meta. ap (λ r. performed_by r (memory_of meta old).calls) fits ∙ no_call meta;
+    no_call = λ meta. ap (λ r. call_performed_by r (memory_of meta old).calls) fits ∙ no_call meta;
   }
 
   -- one that needs no more cells than there are, and reads nothing
-  scans-quiet : (r : Rule) → rule (text_of_cells old.active) ≡ r → ((meta : ℕ) (input : Input) (output : Text) → follow r (state_with (memory_of meta old) input output) ≡ Next (state_with (memory_of meta new) input output)) → ((s : State) → (need_by r s ≡ size s.memory) × ((reads_last_by r s ≡ false) × (performed_by r s.memory.calls ≡ None))) → Scans old new (used old)
+  scans-quiet : (r : Rule) → rule (text_of_cells old.active) ≡ r → ((meta : ℕ) (input : Input) (output : Text) → follow r (state_with (memory_of meta old) input output) ≡ Next (state_with (memory_of meta new) input output)) → ((s : State) → (need_by r s ≡ size s.memory) × ((reads_last_by r s ≡ false) × (call_performed_by r s.memory.calls ≡ None))) → Scans old new (used old)
   scans-quiet r fits goes quiet =
       scans-by r (used old) fits goes (λ meta input output. (quiet (state_with (memory_of meta old) input output)).0 ∙ size-used meta old) (λ meta input output. (quiet (state_with (memory_of meta old) input output)).1.0)
       (λ meta. (quiet (state_with (memory_of meta old) (ending []) [])).1.1)

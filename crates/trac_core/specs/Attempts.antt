@@ -25,7 +25,8 @@ use Rattle.trac_functions.specs.declared.arguments.CallResult.TheVariants.{Full,
 use Rattle.trac_functions.specs.declared.arguments.CallResult.TheVariants.{Over}
 use Rattle.trac_functions.specs.Flat.{memory_of, mode_at, arguments_at}
 use Rattle.trac_functions.specs.Calls.{texts}
-use Rattle.trac_core.specs.Performed.{performs, reads_input, prints_output}
+use Rattle.trac_core.specs.OpenCalls.{performed_call}
+use Rattle.trac_core.specs.Performed.{reads_input, prints_output}
 use Rattle.trac_core.specs.Machine.{MachineState, moment, state_with, Answers, counted}
 use Rattle.trac_core.specs.Machine.{input_failures, output_failures}
 
@@ -62,7 +63,7 @@ pub record Scans (old new : Contents) (needed : ℕ) : Type 0 where
       need (state_over old meta input output) ≡ needed
   pub reads : (meta : ℕ) (input : Input) (output : Text) →
       reads_to_end (state_over old meta input output) ≡ false
-  pub no_call : (meta : ℕ) → performs (memory_of meta old) ≡ None
+  pub no_call : (meta : ℕ) → performed_call (memory_of meta old) ≡ None
 
 -- a step that performs no call was done, or it needs more than the room
 abbrev pub Scanned : Option Fate → ℕ → Contents → Contents → Type 0

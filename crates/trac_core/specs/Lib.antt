@@ -10,4 +10,7 @@ pub mod Attempts
 pub mod StepsInRow
 pub mod NamedCalls
 pub mod Advancing
+pub mod Driving
 pub mod Display
+pub mod Answering
+pub mod Changing

@@ -21,6 +21,8 @@ pub record MachineState : Type 0 where
   pub steps : ℕ
   pub peak : ℕ
   pub fate : Option Fate
+  -- whether turns of it stop before a call whose name is no function
+  pub stops : Bool
 
 -- a machine that was just made
 abbrev pub made : ℕ → ℕ → MachineState
@@ -32,6 +34,7 @@ made room allowance =
       steps = 0;
       peak = 0;
       fate = None;
+      stops = false;
     }
 
 -- a machine holds to its limits
@@ -39,6 +42,12 @@ pub record KeepsLimits (m : MachineState) : Type 0 where
   pub cells : size m.memory ≤ m.room
   pub steps : m.steps ≤ m.allowance
   pub peak : m.peak ≤ m.room
+
+-- the room, the allowance and what turns stop before are as they were
+pub record KeepsSettings (old new : MachineState) : Type 0 where
+  pub room : new.room ≡ old.room
+  pub allowance : new.allowance ≡ old.allowance
+  pub stops : new.stops ≡ old.stops
 
 -- a machine between its source and its sink
 pub record Moment : Type 0 where

@@ -1,7 +1,7 @@
 -- The calls that are open, where their marks stand in the neutral string, and which of them the next
 -- step performs.
 use Rattle.std.specs.Prelude.{ℕ, zero, suc, ◌+◌, List, [], ◌∷◌, Option, None, Some, drop, length, sum_by}
-use Rattle.std.specs.Prelude.{◌&&◌, if◌then◌else◌, is_none, nat_lt}
+use Rattle.std.specs.Prelude.{Bool, false, ◌&&◌, if◌then◌else◌, is_none, nat_lt}
 use Rattle.trac_language.specs.Rule.{Rule, EndCall, rule}
 use Rattle.trac_language.specs.Text.{Text}
 use Rattle.trac_language.specs.State.{Memory, OpenCall as Call, arguments, call_cells}
@@ -56,6 +56,24 @@ call_performed_by _ calls = None
 -- the call that a step performs over this memory
 abbrev pub performed_call : Memory → Option NextCall
 performed_call memory = call_performed_by (rule memory.active) memory.calls
+
+-- whether a call is performed, and its name is no function
+abbrev pub is_unknown : Option NextCall → Bool
+is_unknown None = false
+is_unknown (Some call) = is_none call.function
+
+-- whether a step over this memory performs a call whose name is no function
+abbrev pub calls_unknown : Memory → Bool
+calls_unknown memory = is_unknown (performed_call memory)
+
+-- whether a turn that stops before calls of no function, if `stops` says so, stops before a step over
+-- this memory
+abbrev pub stops_at : Bool → Memory → Bool
+stops_at stops memory = stops && calls_unknown memory
+
+-- whether turns of a machine stop before its next step, so that the host may answer the call that it performs
+abbrev pub asks_host : MachineState → Bool
+asks_host m = stops_at m.stops m.memory
 
 -- the arguments, the name first, of the call among these, innermost first, that a step by the rule performs;
 -- none where it performs no call

@@ -18,7 +18,7 @@ use Rattle.trac_functions.specs.Flat.{memory_of}
 use Rattle.trac_core.specs.declared.scan.Pending.{Pending}
 use Rattle.trac_core.specs.declared.scan.Pending.TheVariants.{Idling, EndOfCall}
 use Rattle.trac_core.specs.declared.machine.Counters.{Counters}
-use Rattle.trac_core.specs.Performed.{performs}
+use Rattle.trac_core.specs.OpenCalls.{performed_call}
 use Rattle.trac_core.specs.Machine.{MachineState, state_with}
 
 -- a character that has a rule of its own
@@ -49,7 +49,7 @@ pub record Passes (old new : Memory) : Type 0 where
   pub needs : (input : Input) (output : Text) → need (state_with old input output) ≡ size old
   pub reads : (input : Input) (output : Text) → reads_to_end (state_with old input output) ≡ false
   pub no_larger : size new ≤ size old
-  pub no_call : performs old ≡ None
+  pub no_call : performed_call old ≡ None
 
 -- n steps that perform no call lead from memory `old` to `new`, none of them to a larger one
 abbrev pub PassesTimes : ℕ → Memory → Memory → Type 0
@@ -114,9 +114,10 @@ abbrev pub passed : ℕ → Memory → MachineState → MachineState
 passed n memory m =
     record m { memory = memory; steps = m.steps + n; peak = peak_after n (size m.memory) m.peak }
 
--- a machine over the contents `w` with the counters `at`, whose run isn't over
-abbrev pub running : Contents → ℕ → Counters → MachineState
-running w meta at =
+-- a machine over the contents `w` with the counters `at`, whose run isn't over, and whose turns stop
+-- before a call whose name is no function if `stops` says so
+abbrev pub turning : Bool → Contents → ℕ → Counters → MachineState
+turning stops w meta at =
     record {
       memory = memory_of meta w;
       room = w.room;
@@ -124,4 +125,5 @@ running w meta at =
       steps = at.steps;
       peak = at.peak;
       fate = None;
+      stops = stops;
     }

@@ -2,7 +2,7 @@
 //! `trac_functions::function`. The functions that read, print, change the meta character or end the
 //! run are called here; one that reads or prints has a line in `needs_device` too.
 ghost use Rattle.std.specs.Prelude.{◌≡◌, ◌≢◌, ◌-◌, ◌<◌, ◌≤◌, ◌^◌, ℕ};
-ghost use Rattle.std.specs.Prelude.{length, nat_lt, None, Some, true, false, IfOk, MatchResult};
+ghost use Rattle.std.specs.Prelude.{◌&&◌, is_none, length, nat_lt, None, Some, true, false, IfOk, MatchResult};
 ghost use Rattle.trac_language.specs.Text.{Text};
 ghost use Rattle.trac_space.specs.Calls.{IsLastCall};
 ghost use Rattle.trac_forms.specs.Contents.{IsSound, used};
@@ -13,7 +13,7 @@ ghost use Rattle.trac_core.specs.Performed.{calls_device, performs, touches_devi
 ghost use Rattle.trac_core.specs.Attempts.{scene, Tried, TriedCall, function_at, TakesFrom};
 ghost use Rattle.trac_core.specs.Attempts.{TakesAtMost, AnswersCall, Stands, fate_after};
 ghost use Rattle.trac_core.specs.Attempts.{LeavesSource, LeavesSink, EndsQuietly, NoneFailed, HasArguments};
-ghost use Rattle.trac_core.specs.NamedCalls.{IsAlone, IsNamed, TriedAlone, StopsBefore};
+ghost use Rattle.trac_core.specs.NamedCalls.{IsAlone, IsNamed};
 ghost use Rattle.trac_devices.specs.Devices.{Stream};
 ghost use Rattle.trac_core.specs.StepsInRow.{AsksFor, IsPlainFrom};
 ghost use Rattle.trac_functions.specs.Calls.{KeepsRoom};
@@ -71,36 +71,6 @@ pub(crate) fn perform_pending<I: Source, O: Sink>(
     }
 }
 
-/// The step that `perform_pending` makes, where it needs no device. An error is the function that reads
-/// or prints: then nothing is done.
-#[inline(always)]
-pub(crate) fn perform_pending_alone(
-    work: &mut Work,
-    pending: Pending,
-    meta: &mut u8,
-) -> Result<Attempt, Option<Function>>
-    requires sound { IsSound work.old }
-    requires asks { AsksFor pending work.old }
-    ensures tried { MatchResult result
-        (λ attempt. TriedAlone work.old meta.old attempt.fate attempt.need work.new meta.new)
-        (λ function. StopsBefore function (memory_of meta.old work.old)
-        × (work.new ≡ work.old) × (meta.new ≡ meta.old)) }
-    ensures fits { IfOk result (λ attempt. attempt.need ≤ work.old.room) }
-    ensures keeps { KeepsRoom work.old work.new }
-{
-    match pending {
-        Pending::Idling => Ok(load_idling(work)),
-        Pending::EndOfCall(call) => {
-            let call = named(work, call);
-            if needs_device(work, call) {
-                return Err(call.function);
-            }
-            work.drop_active(1);
-            Ok(perform_alone(work, call, meta))
-        }
-    }
-}
-
 /// Performs the innermost call, whose right parenthesis was deleted.
 #[inline(always)]
 fn perform<I: Source, O: Sink>(
@@ -146,7 +116,7 @@ fn perform<I: Source, O: Sink>(
 
 /// Performs the innermost call, whose right parenthesis was deleted and which needs no device.
 #[inline(always)]
-fn perform_alone(work: &mut Work, call: NamedCall, meta: &mut u8) -> Attempt
+pub(crate) fn perform_alone(work: &mut Work, call: NamedCall, meta: &mut u8) -> Attempt
     requires named { IsNamed call work.old }
     requires alone { IsAlone work.old call.place }
     ensures tried { (source : Stream) (written : Text) →
@@ -203,7 +173,7 @@ pub(crate) fn named(work: &Work, call: InnermostCall) -> NamedCall
 
 /// Whether a call needs a device: it reads, it displays a form, or it prints a text that isn't null.
 #[inline(always)]
-fn needs_device(work: &Work, call: NamedCall) -> bool
+pub(crate) fn needs_device(work: &Work, call: NamedCall) -> bool
     requires { IsNamed call work.now }
     ensures { let neutral = work.now.neutral in
         result ≡ calls_device (function_at neutral call.place) (arguments_at neutral call.place) }
@@ -213,6 +183,14 @@ fn needs_device(work: &Work, call: NamedCall) -> bool
         Some(Function::PrintString) => has_text(work, call.arguments),
         _ => false,
     }
+}
+
+/// Whether a turn stops before a call for its host: its name is no function, and `stops` says to stop there.
+#[inline(always)]
+pub(crate) fn asks_host(stops: bool, call: NamedCall) -> bool
+    ensures { result ≡ (stops && is_none call.function) }
+{
+    call.function.is_none() && stops
 }
 
 /// Whether the next argument is a text that isn't null.

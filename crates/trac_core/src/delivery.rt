@@ -1,5 +1,5 @@
 //! What a function's answer comes to: the count of what the call needed, and where its value goes.
-ghost use Rattle.std.specs.Prelude.{◌≡◌, ◌<◌, ◌≤◌, length, drop, All};
+ghost use Rattle.std.specs.Prelude.{◌≡◌, ◌<◌, ◌≤◌, ◌++◌, length, drop, take, All, if◌then◌else◌};
 ghost use Rattle.trac_space.specs.Calls.{IsLastCall};
 ghost use Rattle.trac_space.specs.Texts.{IsByte};
 ghost use Rattle.trac_forms.specs.Contents.{IsSound};
@@ -59,7 +59,24 @@ fn deliver(work: &mut Work, place: u32, from: u32)
     ensures delivered { work.new ≡ value_delivered place from work.old }
     ensures sound { IsSound work.new }
 {
-    if is_scanned_again(work, place) {
+    let scanned = is_scanned_again(work, place);
+    move_value(work, place, from, scanned);
+}
+
+/// The call whose mark stands at the place leaves, and its value, which stands from another place on, goes before
+/// the active string if it is to be scanned again, and else stays.
+#[inline(always)]
+pub(crate) fn move_value(work: &mut Work, place: u32, from: u32, scanned: bool)
+    requires order { place < from }
+    requires within { from ≤ length work.old.neutral }
+    requires value { All IsByte (drop from work.old.neutral) }
+    ensures moved { let value = drop from work.old.neutral in
+        work.new ≡ (if scanned
+        then record work.old { active = value ++ work.old.active; neutral = take place work.old.neutral }
+        else record work.old { neutral = take place work.old.neutral ++ value }) }
+    ensures sound { IsSound work.new }
+{
+    if scanned {
         work.neutral_to_active(from);
         work.cut_neutral(place);
     } else {

@@ -9,6 +9,7 @@ mod display;
 mod idling;
 mod input_output;
 mod machine;
+mod performer;
 mod rules;
 mod run_hints;
 mod runs;
@@ -16,7 +17,7 @@ mod scan;
 mod streaming;
 
 pub use display::{display_len, show_form};
-pub use machine::{Awaits, CallMark, Machine, NextCall, OpenCall, Progress};
+pub use machine::{Awaits, CallMark, Delivery, Machine, NextCall, OpenCall, Progress, Refused};
 pub use rules::ScanningRule;
 pub use runs::is_layout;
 pub use trac_devices::{
@@ -24,7 +25,7 @@ pub use trac_devices::{
     RetryingWriter, Sink, SinkFailed, SliceSink, SliceSource, Source, TRIES, WriteSink,
     write_characters,
 };
-pub use trac_forms::{Forms, StoredForm, Work};
+pub use trac_forms::{Body, Forms, StoredForm, TextBody, Work};
 pub use trac_language::{Fate, Function, Item, Report};
 pub use trac_laws as laws;
 pub use trac_space::{Cell, Neutral};

@@ -9,16 +9,12 @@ ghost use Rattle.trac_core.specs.Machine.{made, KeepsLimits, moment, Answers, Ta
 ghost use Rattle.trac_core.specs.Machine.{input_failures, output_failures, reported_input_failures};
 ghost use Rattle.trac_core.specs.Machine.{reported_output_failures, Reports, course, counted};
 ghost use Rattle.trac_core.specs.Machine.{MachineState, Resumes, LeavesMemory, counts_as_step};
-ghost use Rattle.trac_core.specs.StepsInRow.{running};
-ghost use Rattle.trac_forms.specs.Contents.{IsSound};
-ghost use Rattle.trac_functions.specs.Calls.{KeepsRoom};
 ghost use Rattle.trac_functions.specs.Flat.{memory_of};
 
 use crate::attempt::Attempt;
 use crate::call::perform_pending;
-use crate::idling::{IDLING_STEPS, begin_idling, may_begin_idling};
-use crate::run_hints::RunHints;
-use crate::scan::{Pending, scan_once, scan_steps};
+use crate::performer::WithDevices;
+use crate::scan::scan_once;
 use std::marker::Model;
 use trac_devices::{Sink, Source};
 use trac_forms::Work;
@@ -26,7 +22,9 @@ use trac_language::{Fate, Report};
 use trac_space::Cell;
 
 pub(crate) mod advancing;
+pub(crate) mod answering;
 pub(crate) mod arguments;
+pub(crate) mod changing;
 pub(crate) mod closing;
 pub(crate) mod open_calls;
 pub(crate) mod printing;
@@ -34,6 +32,8 @@ pub(crate) mod session;
 pub(crate) mod view;
 
 pub use advancing::Progress;
+pub use answering::Delivery;
+pub use changing::Refused;
 pub use open_calls::{CallMark, NextCall, OpenCall};
 pub use session::Awaits;
 
@@ -50,6 +50,8 @@ pub struct Machine<'a> {
     steps: u64,
     peak: u32,
     fate: Option<Fate>,
+    /// Whether turns stop before a call whose name is no function.
+    stops: bool,
 }
 
 impl<'a> Model for Machine<'a> {
@@ -68,6 +70,7 @@ impl<'a> Model for Machine<'a> {
       steps = m.steps;
       peak = m.peak;
       fate = m.fate;
+      stops = m.stops;
     } };
 
     ghost invariant = { λ m. (m.steps ≤ m.allowance) × (m.peak ≤ m.work.room) × IsSound m.work
@@ -89,6 +92,7 @@ impl<'a> Machine<'a> {
             steps: 0,
             peak: 0,
             fate: None,
+            stops: false,
         }
     }
 
@@ -150,6 +154,7 @@ impl<'a> Machine<'a> {
         // the limits stay, and are kept
         ensures room { self.new.room ≡ self.old.room }
         ensures allowance { self.new.allowance ≡ self.old.allowance }
+        ensures stops { self.new.stops ≡ self.old.stops }
         ensures limits { KeepsLimits self.new }
     {
         if self.fate.is_some() {
@@ -268,22 +273,17 @@ impl<'a> Machine<'a> {
         ensures kept { O.lent sink.new ≡ O.lent sink.old }
         ensures room { self.new.room ≡ self.old.room }
         ensures allowance { self.new.allowance ≡ self.old.allowance }
+        ensures stops { self.new.stops ≡ self.old.stops }
         ensures limits { KeepsLimits self.new }
     {
         if let Some(fate) = self.fate {
             return self.report_with(fate);
         }
-        let at = Counters {
-            allowance: self.allowance,
-            steps: self.steps,
-            peak: self.peak,
-        };
-        let report = run_to_end(&mut self.work, &mut self.meta, at, source, sink);
-        self.steps = report.steps;
-        self.peak = report.peak;
-        self.fate = Some(report.fate);
-        self.plain = self.work.neutral_len();
-        report
+        let left = self.allowance - self.steps;
+        self.drive(WithDevices, left, source, sink);
+        let fate = self.fate.unwrap_or(Fate::Steps);
+        self.fate = Some(fate);
+        self.report_with(fate)
     }
 
     /// The report of a run that ended with this fate.
@@ -308,82 +308,6 @@ struct Counters {
     allowance: u64,
     steps: u64,
     peak: u32,
-}
-
-/// Makes steps to the end of a run that isn't over and has these counters, and reports what it came
-/// to. The counters are single values here, and no part of a machine, so that they need not stand
-/// in memory.
-#[inline(never)]
-fn run_to_end<I: Source, O: Sink>(
-    work: &mut Work,
-    meta: &mut u8,
-    at: Counters,
-    source: &mut I,
-    sink: &mut O,
-) -> Report
-    requires sound { IsSound work.old }
-    requires steps { at.steps ≤ at.allowance }
-    requires peak { at.peak ≤ work.old.room }
-    requires source_counts { I.failure_count source.old < 2 ^ 64 - 1 }
-    requires sink_counts { O.failure_count sink.old < 2 ^ 64 - 1 }
-    ensures reports { I.tells source.old → O.tells sink.old →
-        let m = running work.old meta.old at in
-        let course = course m (I.stream source.old) (O.written sink.old)
-        (I.stream source.new) (O.written sink.new) in
-        Resumes m result.fate course result }
-    ensures leaves { I.tells source.old → O.tells sink.old →
-        let m = running work.old meta.old at in
-        let course = course m (I.stream source.old) (O.written sink.old)
-        (I.stream source.new) (O.written sink.new) in
-        LeavesMemory result.fate course m.memory (result.steps - at.steps)
-        (memory_of meta.new work.new) }
-    ensures input_failed { I.failure_count source.new ≡
-        I.failure_count source.old + input_failures None (Some result.fate) }
-    ensures output_failed { O.failure_count sink.new ≡
-        O.failure_count sink.old + output_failures None (Some result.fate) }
-    ensures sent { result.fate ≢ Fate.OutputFailed →
-        Sent O.tells O.flushed O.written sink.old sink.new }
-    ensures told_source { I.tells source.old → I.tells source.new }
-    ensures told_sink { O.tells sink.old → O.tells sink.new }
-    ensures kept { O.lent sink.new ≡ O.lent sink.old }
-    ensures steps { result.steps ≤ at.allowance }
-    ensures peak { result.peak ≤ work.old.room }
-    ensures keeps { KeepsRoom work.old work.new }
-{
-    let mut left = at.allowance - at.steps;
-    let mut peak = at.peak;
-    // The cells of the first step since a call: those that perform none need no more than it does.
-    let mut need = work.used();
-    let mut hints = RunHints::new(work.neutral_len());
-    while left > 0 {
-        match scan_steps(work, left, &mut hints) {
-            Ok(done) => {
-                left -= done;
-                peak = peak.max(need);
-            }
-            Err(Pending::Idling) if may_begin_idling(work, left) => {
-                peak = peak.max(begin_idling(work));
-                left -= IDLING_STEPS;
-                need = work.used();
-                hints = RunHints::new(work.neutral_len());
-            }
-            Err(pending) => {
-                let last = perform_pending(work, pending, meta, source, sink);
-                if let Some(fate) = last.fate {
-                    return ended(fate, last.need, at.allowance - left, peak);
-                }
-                left -= 1;
-                peak = peak.max(last.need);
-                need = work.used();
-                hints = RunHints::new(work.neutral_len());
-            }
-        }
-    }
-    Report {
-        fate: Fate::Steps,
-        steps: at.allowance,
-        peak,
-    }
 }
 
 /// What a run reports that ended with this fate in a step that needed `need` cells, after `steps`

@@ -2,3 +2,5 @@ pub mod Depth
 pub mod Failures
 pub mod NextArgument
 mod Imports
+pub mod Sources
+pub mod ArgumentLengths

@@ -83,7 +83,7 @@ impl Before {
 /// The value of a call that was performed, by how many cells the active string had before: what stands in
 /// front of these cells in the active string or, if nothing does, what stands in the neutral string from the
 /// place of the call's mark on.
-pub fn value_behind<'m>(
+fn value_behind<'m>(
     call: CallMark,
     before: usize,
     neutral: &'m [Cell],

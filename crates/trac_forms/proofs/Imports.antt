@@ -53,3 +53,9 @@ pub use Rattle.trac_space.proofs.BlockChanges.{reads}
 pub use Rattle.trac_space.proofs.Characters.{part-on}
 pub use Rattle.trac_space.specs.declared.part.Part.{Part}
 pub use Rattle.trac_store.specs.declared.located.Located.{Located}
+pub use Rattle.std.proofs.lemmas.List.{get_or-map, take_more_same}
+pub use Rattle.std.proofs.lemmas.List.Edits.{paste_more}
+pub use Rattle.std.proofs.lemmas.Bool.{both_ways}
+pub use Rattle.std.specs.Prelude.{Decides}
+pub use lib.Seq.{paste}
+pub use Rattle.trac_forms.specs.Given.{given, with_form}

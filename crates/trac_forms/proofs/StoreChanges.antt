@@ -1,25 +1,52 @@
 -- What `define` and `segment` leave in a store, from what they put there.
 use Rattle.trac_forms.proofs.Imports.{◌≡◌, ℕ, ◌+◌, ◌-◌, ◌<◌, ◌≤◌, List, ◌∷◌, [], ◌++◌, length, take, drop, map, set, slice_range, refl, sym, ap, subst, ◌∙◌, arith, length_push, length-append, length-map, length-set, length-take-le, length-drop, take_at, length-between, sum_by_push, items_of}
-use Rattle.trac_forms.proofs.Imports.{segment, form_cells, Text, Cell, Head, character_of, Lists, flat_item, flat_form, flat_forms, form_at, name_at, part_text, new_form, IsTextPart, segmented_cells, IsIndexed, IsIndexBut, started, forms_in, start_of}
-use Rattle.trac_forms.proofs.Imports.{NoneNamed, IsStore-push, flat_map_more, IsStored, forms_in-flat, length-flat, length-new_form, flat_items_of, Byte-character_of, stands, start_of-set, IsStore-set, cells-set, index-replaced, flat-segment, regapped, written, length-flat_form}
+use Rattle.trac_forms.proofs.Imports.{segment, form_cells, Text, Form, Cell, Head, character_of, Lists, flat_item, flat_form, flat_forms, form_at, name_at, part_text, IsTextPart, segmented_cells, IsIndexed, IsIndexBut, started, forms_in, start_of}
+use Rattle.trac_forms.proofs.Imports.{NoneNamed, IsStore-push, flat_map_more, IsStored, forms_in-flat, length-flat, index-kept, IsKept, flat_items_of, Byte-character_of, stands, start_of-set, IsStore-set, cells-set, index-replaced, flat-segment, regapped, written, length-flat_form}
 use Rattle.trac_forms.proofs.FormTables.{index-set}
+use Rattle.trac_forms.specs.Stored.{IsIndexedUpTo}
 use Rattle.trac_language.specs.declared.item.Item.TheVariants as item
 use Rattle.trac_space.specs.Lists as lists
 use Rattle.trac_forms.proofs.Strings.{used-stored, restored}
 
--- a new form of two parts of neutral behind the others
-pub added : (s u : Lists) (a b from to : ℕ) → flat_forms (forms_in s.store) ≡ s.store → u ≡ record s { store = s.store ++ flat_form (new_form s.neutral a b from to); spare = u.spare } → u ≡ record s { store = flat_forms (forms_in s.store ++ new_form s.neutral a b from to ∷ []); spare = u.spare }
-added s u a b from to whole put =
-    put ∙ ap (λ cells. record s { store = cells ++ flat_form (new_form s.neutral a b from to); spare = u.spare }) (sym whole)
-    ∙ ap (λ cells. record s { store = cells; spare = u.spare }) (flat_map_more flat_form [] (forms_in s.store) (new_form s.neutral a b from to))
+-- a new form behind the others
+pub added : (s u : Lists) (form : Form) → flat_forms (forms_in s.store) ≡ s.store → u ≡ record s { store = s.store ++ flat_form form; spare = u.spare } → u ≡ record s { store = flat_forms (forms_in s.store ++ form ∷ []); spare = u.spare }
+added s u form whole put =
+    put ∙ ap (λ cells. record s { store = cells ++ flat_form form; spare = u.spare }) (sym whole)
+    ∙ ap (λ cells. record s { store = cells; spare = u.spare }) (flat_map_more flat_form [] (forms_in s.store) form)
 
-pub added-stored : (s u v : Lists) (count last start a b from to begins : ℕ) → IsStored s count last start → b ≤ length s.neutral → to ≤ length s.neutral → lists.used s + (3 + (b - a) + (to - from)) ≤ s.room → NoneNamed (part_text s.neutral a b) (forms_in s.store) → begins ≡ length s.store → u ≡ record s { store = s.store ++ flat_form (new_form s.neutral a b from to); spare = u.spare } → IsIndexed v.spare (forms_in u.store) → v ≡ record u { spare = v.spare } → IsStored v (count + 1) count begins
-added-stored s u v count last start a b from to begins h name_in text_in need none begin put index kept =
+-- the forms are then those that there were, and it
+pub added-forms : (s u : Lists) (form : Form) → flat_forms (forms_in s.store) ≡ s.store → u ≡ record s { store = s.store ++ flat_form form; spare = u.spare } → forms_in u.store ≡ forms_in s.store ++ form ∷ []
+added-forms s u form whole put =
+    ap (λ (w : Lists). forms_in w.store) (added s u form whole put) ∙ forms_in-flat (forms_in s.store ++ form ∷ [])
+
+-- before it is in the index, that is one of the forms before it
+pub added-indexed : (s u : Lists) (count last start : ℕ) (form : Form) (begins : ℕ) → IsStored s count last start → lists.used s + form_cells form ≤ s.room → begins ≡ length s.store → u ≡ record s { store = s.store ++ flat_form form; spare = u.spare } → IsKept s.spare u.spare → IsIndexedUpTo u count begins
+added-indexed s u count last start form begins h need begin put kept =
     let forms = forms_in s.store in
-    let form = new_form s.neutral a b from to in
     let all = forms ++ form ∷ [] in
-    let is = added s u a b from to h.forms.whole put in
-    let size = length-new_form s.neutral a b from to name_in text_in in
+    let is = added s u form h.forms.whole put in
+    let read = added-forms s u form h.forms.whole put in
+    let there = ap (λ (w : Lists). length w.store) is in
+    let more = sum_by_push form_cells forms form in
+    let front = take_at forms (form ∷ []) count (sym h.count_is) in
+    record {
+      forms = record {
+        whole = ap flat_forms read ∙ sym (ap (λ (w : Lists). w.store) is);
+        bounded = omega (arith, there, length-flat all, length-flat forms, more, used-stored s h.forms.whole, h.sound.bounded, need);
+      };
+      place = record {
+        within = omega (arith, ap length read, length_push forms form, h.count_is);
+        start_is = begin ∙ ap length (sym h.forms.whole) ∙ ap (λ fs. length (flat_forms fs)) (sym front) ∙ ap (λ fs. start_of fs count) (sym read);
+      };
+      index = subst (IsIndexed u.spare) (sym (ap (take count) read ∙ front)) (index-kept s.spare u.spare forms kept h.index);
+    }
+
+-- with the index that the forms have then
+pub added-stored : (s u v : Lists) (count last start : ℕ) (form : Form) (begins : ℕ) → IsStored s count last start → form.pointer ≤ length form.body → lists.used s + form_cells form ≤ s.room → NoneNamed form.name (forms_in s.store) → begins ≡ length s.store → u ≡ record s { store = s.store ++ flat_form form; spare = u.spare } → IsIndexed v.spare (forms_in u.store) → v ≡ record u { spare = v.spare } → IsStored v (count + 1) count begins
+added-stored s u v count last start form begins h inside need none begin put index kept =
+    let forms = forms_in s.store in
+    let all = forms ++ form ∷ [] in
+    let is = added s u form h.forms.whole put in
     let more = sum_by_push form_cells forms form in
     let long = ap length h.forms.whole in
     let room : length (flat_forms all) + length s.neutral + length s.active ≤ s.room = omega (arith, length-flat all, length-flat forms, long) in
@@ -27,7 +54,7 @@ added-stored s u v count last start a b from to begins h name_in text_in need no
     let first = take_at forms (form ∷ []) (length forms) refl in
     let place : begins ≡ start_of all (length forms) = begin ∙ sym long ∙ ap (λ fs. length (flat_forms fs)) (sym first) in
     let counted = h.count_is in
-    restored v.spare s v all (count + 1) count begins (subst (IsIndexed v.spare) (ap (λ (w : Lists). forms_in w.store) is ∙ forms_in-flat all) index) h.sound (IsStore-push forms form h.sound.forms none (omega arith)) room (kept ∙ ap (λ (w : Lists). record w { spare = v.spare }) is) (omega arith) (omega arith) (place ∙ ap (start_of all) (sym counted))
+    restored v.spare s v all (count + 1) count begins (subst (IsIndexed v.spare) (added-forms s u form h.forms.whole put) index) h.sound (IsStore-push forms form h.sound.forms none inside) room (kept ∙ ap (λ (w : Lists). record w { spare = v.spare }) is) (omega arith) (omega arith) (place ∙ ap (start_of all) (sym counted))
 
 -- the store is still as long as what stands before the gaps
 pub gapped-long : (s t : Lists) (from : ℕ) (gapped rest : List Cell) → from ≤ length s.store → t ≡ record s { store = take from s.store ++ gapped ++ rest } → from ≤ length t.store

@@ -1,5 +1,5 @@
-//! Copies the rest of a form with its gaps filled, to the front of active or to the end of neutral (Mooers
-//! 1966). Takes the character at the pointer.
+//! Copies the rest of a form with its gaps filled, to the front of active (Mooers 1966). Takes the character at
+//! the pointer.
 ghost use Rattle.std.specs.Prelude.{◌≡◌, ◌+◌, ◌≤◌, ◌<◌, ◌↔◌, ◌++◌};
 ghost use Rattle.std.specs.Prelude.{◌∷◌, [], length, map, slice_range, slice_index_or, set, IsTrue};
 ghost use Rattle.std.specs.Prelude.{MatchOption};
@@ -22,33 +22,10 @@ use trac_space::{Cell, Part, Space};
 use trac_store::{Located, fill_items, heads_of};
 
 impl<'a> Work<'a> {
-    /// Copies the form's body from its pointer on to the end of neutral, each gap k replaced by argument k:
+    /// Copies the form's body from its pointer on to the front of active, each gap k replaced by argument k:
     /// the k-th, from 1, of the texts between the comma marks of neutral from place `first` up to `end`, or
-    /// nothing if there is no such text. False, with nothing changed, if the copy doesn't fit.
-    pub fn fill_body(&mut self, form: FormId, first: u32, end: u32) -> bool
-        requires known { form_place form < length self.old.forms }
-        requires arguments { AreParted self.old.neutral first end }
-        ensures put { let text = filled_body self.old (form_place form) first end in
-            IsTrue result ↔ (used self.old + length text ≤ self.old.room) }
-        ensures last { let text = filled_body self.old (form_place form) first end in
-            OnTrue result (self.new ≡ record self.old {
-              neutral = self.old.neutral ++ flat_text text;
-            }) }
-        ensures full { OnFalse result (self.new ≡ self.old) }
-        ensures sound { IsSound self.new }
-    {
-        match self.load_filled(form, first, end, end) {
-            Some(size) => {
-                self.active_to_neutral(size);
-                true
-            }
-            None => false,
-        }
-    }
-
-    /// Copies the form's body from its pointer on to the front of active, its gaps replaced as by `fill_body`,
-    /// and gives how many characters these are. No comma mark stands in neutral from place `plain` up to
-    /// `end`. None, with nothing changed, if the copy doesn't fit.
+    /// nothing if there is no such text. Gives how many characters these are. No comma mark stands in neutral
+    /// from place `plain` up to `end`. None, with nothing changed, if the copy doesn't fit.
     #[inline(always)]
     pub fn load_filled(&mut self, form: FormId, first: u32, end: u32, plain: u32) -> Option<u32>
         requires known { form_place form < length self.old.forms }

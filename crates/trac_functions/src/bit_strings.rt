@@ -43,11 +43,7 @@ pub fn union(work: &mut Work, mut arguments: Arguments) -> CallResult
     let second = arguments.next(work);
     let left = digits_of(work, first);
     let right = digits_of(work, second);
-    let prefix = Part {
-        from: first.from,
-        to: left.from,
-    };
-    give_bits(work, prefix, BitResult::Union(left, right))
+    give_bits(work, first, left, BitResult::Union(left, right))
 }
 
 /// `bi,A,B`: the prefix of A and after it the intersection of the bit strings
@@ -63,11 +59,7 @@ pub fn intersection(work: &mut Work, mut arguments: Arguments) -> CallResult
     let second = arguments.next(work);
     let left = digits_of(work, first);
     let right = digits_of(work, second);
-    let prefix = Part {
-        from: first.from,
-        to: left.from,
-    };
-    give_bits(work, prefix, BitResult::Intersection(left, right))
+    give_bits(work, first, left, BitResult::Intersection(left, right))
 }
 
 /// `bc,O`: the prefix of O and after it the octal digits of
@@ -80,11 +72,7 @@ pub fn complement(work: &mut Work, mut arguments: Arguments) -> CallResult
 {
     let first = arguments.next(work);
     let digits = digits_of(work, first);
-    let prefix = Part {
-        from: first.from,
-        to: digits.from,
-    };
-    give_bits(work, prefix, BitResult::Complement(digits))
+    give_bits(work, first, digits, BitResult::Complement(digits))
 }
 
 /// `bs,D,O`: the prefix of O and after it the octal digits of its bit string, shifted by as many
@@ -101,11 +89,7 @@ pub fn shift(work: &mut Work, mut arguments: Arguments) -> CallResult
     let shifted = arguments.next(work);
     let by = trac_values::shift_of(text(work, distance));
     let digits = digits_of(work, shifted);
-    let prefix = Part {
-        from: shifted.from,
-        to: digits.from,
-    };
-    give_bits(work, prefix, BitResult::Shift(by, digits))
+    give_bits(work, shifted, digits, BitResult::Shift(by, digits))
 }
 
 /// `br,D,O`: the prefix of O and after it the octal digits of its bit string,
@@ -123,11 +107,7 @@ pub fn rotate(work: &mut Work, mut arguments: Arguments) -> CallResult
     let digits = digits_of(work, rotated);
     let bits = (3 * (digits.to - digits.from)).max(1);
     let by = trac_values::rotation_of(text(work, distance), bits);
-    let prefix = Part {
-        from: rotated.from,
-        to: digits.from,
-    };
-    give_bits(work, prefix, BitResult::Rotation(by, digits))
+    give_bits(work, rotated, digits, BitResult::Rotation(by, digits))
 }
 
 /// Where the octal digits stand at the end of a part of the neutral string.
@@ -211,19 +191,23 @@ fn put_digits(work: &mut Work, bits: BitResult)
     }
 }
 
-/// A part of the neutral string, and the octal digits of a
-/// result behind it, are the value of a call.
-fn give_bits(work: &mut Work, prefix: Part, bits: BitResult) -> CallResult
-    requires prefix { IsTextPart work.old.neutral prefix.from prefix.to }
+/// The prefix of an argument, which is what stands before its digits, and the octal digits of a result behind
+/// it are the value of a call.
+fn give_bits(work: &mut Work, argument: Part, digits: Part, bits: BitResult) -> CallResult
+    requires prefix { IsTextPart work.old.neutral argument.from digits.from }
     requires parts { AreFor work.old.neutral bits }
     ensures makes { (function : Function) (args : List Text) (scanned : Bool) →
-        let before = part_text work.old.neutral prefix.from prefix.to in
+        let before = part_text work.old.neutral argument.from digits.from in
         let value = before ++ octal_made work.old.neutral bits in
         Valued function args work.old.forms value false work.old.forms →
         Makes function args scanned work.old result work.new }
     ensures unmade { result ≡ CallResult.Full → work.new.forms ≡ work.old.forms }
     ensures keeps { KeepsRoom work.old work.new }
 {
+    let prefix = Part {
+        from: argument.from,
+        to: digits.from,
+    };
     if work.free() < prefix.to - prefix.from + digits_made(work, bits) {
         return CallResult::Full;
     }

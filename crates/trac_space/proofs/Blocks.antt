@@ -1,10 +1,6 @@
 -- Characters that are put once more by blocks, before they are looked at.
-use Rattle.trac_space.proofs.Imports.{◌≡◌, ℕ, ◌+◌, ◌-◌, ◌≤◌, List, length, drop, arith, rules, copy_within, places, same_lists, paste}
-
--- to a place behind: k cells are there, and the last m follow, of which some may be there
-pub copied-last : {X : Type 0} (was now after : List X) (start to k m n : ℕ) → k ≤ n → m ≤ n → n ≤ k + m → start + n ≤ to → to + n ≤ length was → now ≡ paste was to (drop start was) k → after ≡ copy_within now (start + (n - m)) (start + (n - m) + m) (to + (n - m)) → after ≡ copy_within was start (start + n) to
-copied-last was now after start to k m n front last all apart within is moved =
-    rw (moved, is) (same_lists _ _ (search (rules, places)) (λ i d less. grind (arith, places)))
+use Rattle.trac_space.proofs.Imports.{◌≡◌, ℕ, ◌+◌, ◌-◌, ◌≤◌, Bool, true, false, List, length, drop, arith, rules, copy_within, places, same_lists, paste}
+use Rattle.trac_space.specs.Apart.{IsApart}
 
 -- the first k cells are there
 pub copied-first : {X : Type 0} (was after : List X) (start to k : ℕ) → start + k ≤ length was → to + k ≤ length was → after ≡ copy_within was start (start + k) to → after ≡ paste was to (drop start was) k
@@ -21,6 +17,13 @@ pub carried-last : {X : Type 0} (was now after : List X) (start to k m n : ℕ) 
 carried-last was now after start to k m n front last all apart within is moved =
     rw (moved, is) (same_lists _ _ (search (rules, places)) (λ i d less. grind (arith, places)))
 
+-- to a place apart: k cells are there, and the last m follow, of which some may be there
+pub copied-last : {X : Type 0} (higher : Bool) (was now after : List X) (start to k m n : ℕ) → k ≤ n → m ≤ n → n ≤ k + m → start + n ≤ length was → to + n ≤ length was → IsApart higher start n to → now ≡ paste was to (drop start was) k → after ≡ copy_within now (start + (n - m)) (start + (n - m) + m) (to + (n - m)) → after ≡ copy_within was start (start + n) to
+copied-last true was now after start to k m n front last all whole within apart is moved =
+    rw (moved, is) (same_lists _ _ (search (rules, places)) (λ i d less. grind (arith, places)))
+copied-last false was now after start to k m n front last all whole within apart is moved =
+    carried-last was now after start to k m n front last all (omega arith) whole is moved
+
 -- to a place behind: the cells from one place on are there, and n before them follow
 pub copied-up : {X : Type 0} (was now after : List X) (start to all left n : ℕ) → start ≤ to → to + all ≤ length was → left ≤ all → n ≤ left → now ≡ paste was (to + left) (drop (start + left) was) (all - left) → after ≡ copy_within now (start + (left - n)) (start + left) (to + (left - n)) → after ≡ paste was (to + (left - n)) (drop (start + (left - n)) was) (all - (left - n))
 copied-up was now after start to all left n behind room within few is moved =
@@ -30,3 +33,12 @@ copied-up was now after start to all left n behind room within few is moved =
 pub lifted-last : {X : Type 0} (was now after : List X) (start to left m n : ℕ) → left ≤ m → m ≤ n → start + m ≤ to → to + n ≤ length was → now ≡ paste was (to + left) (drop (start + left) was) (n - left) → after ≡ copy_within now start (start + m) to → after ≡ copy_within was start (start + n) to
 lifted-last was now after start to left m n some few apart within is moved =
     rw (moved, is) (same_lists _ _ (search (rules, places)) (λ i d less. grind (arith, places)))
+
+-- of ranges that are apart the first m cells are, and the last
+pub first-apart : (higher : Bool) (start to m n : ℕ) → m ≤ n → IsApart higher start n to → IsApart higher start m to
+first-apart true start to m n few apart = omega arith
+first-apart false start to m n few apart = omega arith
+
+pub last-apart : (higher : Bool) (start to m n : ℕ) → m ≤ n → IsApart higher start n to → IsApart higher (start + (n - m)) m (to + (n - m))
+last-apart true start to m n few apart = omega arith
+last-apart false start to m n few apart = omega arith

@@ -47,21 +47,46 @@ last-bytes cells at n r few within bytes =
     let is : take r (drop (at - r) cells) ≡ drop (n - r) (take n (drop (at - n) cells)) = same_lists _ _ (search (rules, places)) (λ i d less. grind (arith, places)) in
     subst (All IsByte) (sym is) (All-drop IsByte (n - r) (take n (drop (at - n) cells)) bytes)
 
--- the cells from a place on stand, filled, and those before it are left
-pub record FilledFrom (old now given : List Cell) (from stop low last at to : ℕ) : Type 0 where
-  pub done : List Cell
-  pub order : from ≤ at
-  pub within : at ≤ stop
-  pub room : low ≤ to
-  pub long : to + length done ≡ last
-  pub size : length now ≡ length old
-  pub behind : drop to now ≡ done ++ drop last old
-  pub split : filled given (slice_range old from stop) ≡ filled given (slice_range old from at) ++ done
-  pub front : take low now ≡ take low old
+-- a copy of the cells of `old` from `from` up to `stop`, filled from the given ones, that ends before `last`
+-- and begins at `low` or behind
+pub record Task : Type 0 where
+  pub old : List Cell
+  pub given : List Cell
+  pub from : ℕ
+  pub stop : ℕ
+  pub low : ℕ
+  pub last : ℕ
 
-module _ (old given : List Cell) (from stop low last : ℕ) (before : stop ≤ low) (inside : last ≤ length old) where
-  pub along-start : from ≤ stop → low ≤ last → FilledFrom old old given from stop low last stop last
-  along-start order room = record {
+-- the copy that a function of `filling` makes: `start` and `len` say where the given cells stand
+abbrev pub task : (cells : List Cell) (from stop low to start len : ℕ) → Task
+task cells from stop low to start len = record {
+  old = cells;
+  given = map under (slice_range cells start (start + len));
+  from = from;
+  stop = stop;
+  low = low;
+  last = to;
+}
+
+-- the cells from a place on stand, filled, and those before it are left
+pub record FilledFrom (t : Task) (now : List Cell) (at to : ℕ) : Type 0 where
+  pub before : t.stop ≤ t.low
+  pub inside : t.last ≤ length t.old
+  pub done : List Cell
+  pub order : t.from ≤ at
+  pub within : at ≤ t.stop
+  pub room : t.low ≤ to
+  pub long : to + length done ≡ t.last
+  pub size : length now ≡ length t.old
+  pub behind : drop to now ≡ done ++ drop t.last t.old
+  pub split : filled t.given (slice_range t.old t.from t.stop) ≡ filled t.given (slice_range t.old t.from at) ++ done
+  pub front : take t.low now ≡ take t.low t.old
+
+module _ {t : Task} where
+  pub along-start : t.stop ≤ t.low → t.last ≤ length t.old → t.from ≤ t.stop → t.low ≤ t.last → FilledFrom t t.old t.stop t.last
+  along-start before inside order room = record {
+    before = before;
+    inside = inside;
     done = [];
     order = order;
     within = omega arith;
@@ -69,121 +94,123 @@ module _ (old given : List Cell) (from stop low last : ℕ) (before : stop ≤ l
     long = omega arith;
     size = refl;
     behind = refl;
-    split = sym (append-nil (filled given (slice_range old from stop)));
+    split = sym (append-nil (filled t.given (slice_range t.old t.from t.stop)));
     front = refl;
   }
 
-  module _ (now : List Cell) (at to : ℕ) (h : FilledFrom old now given from stop low last at to) where
-    low-inside : low ≤ length old
-    low-inside = let room = h.room in let long = h.long in omega (arith, inside, room, long)
+  module _ {now : List Cell} {at to : ℕ} (h : FilledFrom t now at to) where
+    low-inside : t.low ≤ length t.old
+    low-inside = let room = h.room in let long = h.long in omega (arith, h.inside, room, long)
 
-    pub same-part : (a b : ℕ) → b ≤ low → slice_range now a b ≡ slice_range old a b
+    pub same-part : (a b : ℕ) → b ≤ t.low → slice_range now a b ≡ slice_range t.old a b
     same-part a b within =
-        sym (part-front now a b low within (omega (arith, low-inside, h.size))) ∙ ap (λ cells. slice_range cells a b) h.front ∙ part-front old a b low within low-inside
+        sym (part-front now a b t.low within (omega (arith, low-inside, h.size))) ∙ ap (λ cells. slice_range cells a b) h.front ∙ part-front t.old a b t.low within low-inside
 
-    pub same-cell : (i : ℕ) (d : Cell) → i < low → get_or now i d ≡ get_or old i d
+    pub same-cell : (i : ℕ) (d : Cell) → i < t.low → get_or now i d ≡ get_or t.old i d
     same-cell i d less =
-        sym (get_or-take low now i d less) ∙ ap (λ cells. get_or cells i d) h.front ∙ get_or-take low old i d less
+        sym (get_or-take t.low now i d less) ∙ ap (λ cells. get_or cells i d) h.front ∙ get_or-take t.low t.old i d less
 
-    pub commas-now : (start end commas : ℕ) → end ≤ low → HaveCommas (slice_range old start end) commas → HaveCommas (slice_range now start end) commas
+    pub commas-now : (start end commas : ℕ) → end ≤ t.low → HaveCommas (slice_range t.old start end) commas → HaveCommas (slice_range now start end) commas
     commas-now start end commas within have = subst (λ cells. HaveCommas cells commas) (sym (same-part start end within)) have
 
     -- more cells that stand for those before
-    along-more : (new more : List Cell) (on lower n : ℕ) → from ≤ on → on ≤ at → low ≤ lower → lower + n ≡ to → length more ≡ n → length new ≡ length now → drop lower new ≡ more ++ drop to now → take low new ≡ take low now → filled given (slice_range old on at) ≡ more → FilledFrom old new given from stop low last on lower
+    along-more : (new more : List Cell) (on lower n : ℕ) → t.from ≤ on → on ≤ at → t.low ≤ lower → lower + n ≡ to → length more ≡ n → length new ≡ length now → drop lower new ≡ more ++ drop to now → take t.low new ≡ take t.low now → filled t.given (slice_range t.old on at) ≡ more → FilledFrom t new on lower
     along-more new more on lower n order up room is is_long same behind front next =
         let within = h.within in
-        let meet = parts-meet old from on at order up (omega (arith, before, within, low-inside)) in
+        let meet = parts-meet t.old t.from on at order up (omega (arith, h.before, within, low-inside)) in
         record {
+          before = h.before;
+          inside = h.inside;
           done = more ++ h.done;
           order = order;
           within = omega (arith, up, within);
           room = room;
           long = omega (arith, length-append more h.done, is_long, h.long, is);
           size = same ∙ h.size;
-          behind = behind ∙ ap (λ cells. more ++ cells) h.behind ∙ sym (append_assoc more h.done (drop last old));
+          behind = behind ∙ ap (λ cells. more ++ cells) h.behind ∙ sym (append_assoc more h.done (drop t.last t.old));
           split = h.split
-              ∙ ap (λ cells. filled given cells ++ h.done) meet
-              ∙ ap (λ cells. cells ++ h.done) (filled-append given (slice_range old from on) (slice_range old on at) ∙ ap (λ cells. filled given (slice_range old from on) ++ cells) next)
-              ∙ append_assoc (filled given (slice_range old from on)) more h.done;
+              ∙ ap (λ cells. filled t.given cells ++ h.done) meet
+              ∙ ap (λ cells. cells ++ h.done) (filled-append t.given (slice_range t.old t.from on) (slice_range t.old on at) ∙ ap (λ cells. filled t.given (slice_range t.old t.from on) ++ cells) next)
+              ∙ append_assoc (filled t.given (slice_range t.old t.from on)) more h.done;
           front = front ∙ h.front;
         }
 
     -- a block is copied, whose last `r` cells are characters
-    pub block-run : (new : List Cell) (start lower r : ℕ) → start + 8 ≡ at → lower + 8 ≡ to → low ≤ lower → new ≡ copy_within now start (start + 8) lower → length new ≡ length now → r ≤ 8 → from + r ≤ at → All IsByte (take r (drop (at - r) new)) → FilledFrom old new given from stop low last (at - r) (to - r)
+    pub block-run : (new : List Cell) (start lower r : ℕ) → start + 8 ≡ at → lower + 8 ≡ to → t.low ≤ lower → new ≡ copy_within now start (start + 8) lower → length new ≡ length now → r ≤ 8 → t.from + r ≤ at → All IsByte (take r (drop (at - r) new)) → FilledFrom t new (at - r) (to - r)
     block-run new start lower r start_is lower_is room is same few order bytes =
         let within = h.within in
-        let apart : start + 8 ≤ lower = omega (arith, start_is, before, within, room) in
+        let apart : start + 8 ≤ lower = omega (arith, start_is, h.before, within, room) in
         let long = h.long in
-        let reach : lower + 8 ≤ length now = omega (arith, lower_is, inside, h.size, long) in
+        let reach : lower + 8 ≤ length now = omega (arith, lower_is, h.inside, h.size, long) in
         let end : at - r + r ≡ at = omega (arith, order) in
-        let source : take r (drop (at - r) new) ≡ slice_range old (at - r) at =
+        let source : take r (drop (at - r) new) ≡ slice_range t.old (at - r) at =
         copied-source now new start lower 8 apart reach is (at - r) r (omega (arith, end, start_is, apart))
         ∙ ap (slice_range now (at - r)) end
-        ∙ same-part (at - r) at (omega (arith, before, within)) in
+        ∙ same-part (at - r) at (omega (arith, h.before, within)) in
         let from_is : start + 8 - r ≡ at - r = ap (λ i. i - r) start_is in
         let to_is : lower + 8 - r ≡ to - r = ap (λ i. i - r) lower_is in
-        let behind : drop (to - r) new ≡ slice_range old (at - r) at ++ drop to now =
+        let behind : drop (to - r) new ≡ slice_range t.old (at - r) at ++ drop to now =
         ap (λ i. drop i new) (sym to_is)
         ∙ copied-last now new start lower 8 apart reach is r few
         ∙ ap (λ i. slice_range now i (start + 8) ++ drop (lower + 8) now) from_is
         ∙ ap (λ i. slice_range now (at - r) i ++ drop (lower + 8) now) start_is
         ∙ ap (λ i. slice_range now (at - r) at ++ drop i now) lower_is
-        ∙ ap (λ cells. cells ++ drop to now) (same-part (at - r) at (omega (arith, before, within))) in
-        let size : length (slice_range old (at - r) at) ≡ r = omega (arith, end, length-between old (at - r) at (omega (arith, before, within, low-inside))) in
-        along-more new (slice_range old (at - r) at) (at - r) (to - r) r (omega (arith, order)) (omega arith) (omega (arith, few, room, lower_is)) (omega (arith, few, lower_is)) size same behind (copied-low now new start lower 8 apart reach is low room) (filled-plain given (slice_range old (at - r) at) (subst (All IsByte) source bytes))
+        ∙ ap (λ cells. cells ++ drop to now) (same-part (at - r) at (omega (arith, h.before, within))) in
+        let size : length (slice_range t.old (at - r) at) ≡ r = omega (arith, end, length-between t.old (at - r) at (omega (arith, h.before, within, low-inside))) in
+        along-more new (slice_range t.old (at - r) at) (at - r) (to - r) r (omega (arith, order)) (omega arith) (omega (arith, few, room, lower_is)) (omega (arith, few, lower_is)) size same behind (copied-low now new start lower 8 apart reach is t.low room) (filled-plain t.given (slice_range t.old (at - r) at) (subst (All IsByte) source bytes))
 
-    module _ (on : ℕ) (next : on + 1 ≡ at) (order : from ≤ on) where
-      last-cell : filled given (slice_range old on at) ≡ filling given (get_or old on Comma)
+    module _ (on : ℕ) (next : on + 1 ≡ at) (order : t.from ≤ on) where
+      last-cell : filled t.given (slice_range t.old on at) ≡ filling t.given (get_or t.old on Comma)
       last-cell =
           let within = h.within in
           let one : at - on ≡ 1 = omega (arith, next) in
-          let is : slice_range old on at ≡ get_or old on Comma ∷ [] = ap (λ k. take k (drop on old)) one ∙ ap (take 1) (drop_more old on Comma (omega (arith, next, within, before, low-inside))) in
-          ap (filled given) is ∙ append-nil (filling given (get_or old on Comma))
+          let is : slice_range t.old on at ≡ get_or t.old on Comma ∷ [] = ap (λ k. take k (drop on t.old)) one ∙ ap (take 1) (drop_more t.old on Comma (omega (arith, next, within, h.before, low-inside))) in
+          ap (filled t.given) is ∙ append-nil (filling t.given (get_or t.old on Comma))
 
       -- where the cells that fill the last one don't fit the whole doesn't
-      pub cell-full : (cells : List Cell) (n : ℕ) → length cells ≡ n → map under cells ≡ filling given (get_or old on Comma) → to < low + n → last < low + length (filled given (slice_range old from stop))
+      pub cell-full : (cells : List Cell) (n : ℕ) → length cells ≡ n → map under cells ≡ filling t.given (get_or t.old on Comma) → to < t.low + n → t.last < t.low + length (filled t.given (slice_range t.old t.from t.stop))
       cell-full cells n size are full =
           let within = h.within in
-          let meet = parts-meet old from on at order (omega (arith, next)) (omega (arith, before, within, low-inside)) in
-          let here = ap length h.split ∙ length-append (filled given (slice_range old from at)) h.done in
-          let split = ap (λ l. length (filled given l)) meet ∙ ap length (filled-append given (slice_range old from on) (slice_range old on at)) ∙ length-append (filled given (slice_range old from on)) (filled given (slice_range old on at)) in
-          let this : length (filled given (slice_range old on at)) ≡ n = ap length last-cell ∙ ap length (sym are) ∙ length-map cells under ∙ size in
+          let meet = parts-meet t.old t.from on at order (omega (arith, next)) (omega (arith, h.before, within, low-inside)) in
+          let here = ap length h.split ∙ length-append (filled t.given (slice_range t.old t.from at)) h.done in
+          let split = ap (λ l. length (filled t.given l)) meet ∙ ap length (filled-append t.given (slice_range t.old t.from on) (slice_range t.old on at)) ∙ length-append (filled t.given (slice_range t.old t.from on)) (filled t.given (slice_range t.old on at)) in
+          let this : length (filled t.given (slice_range t.old on at)) ≡ n = ap length last-cell ∙ ap length (sym are) ∙ length-map cells under ∙ size in
           omega (arith, full, here, split, this, h.long)
 
       -- they are put
-      pub cell-put : (new cells : List Cell) (lower n : ℕ) → length cells ≡ n → map under cells ≡ filling given (get_or old on Comma) → low ≤ lower → lower + n ≡ to → length new ≡ length now → take lower new ≡ take lower now → drop lower new ≡ map under cells ++ drop (lower + n) now → FilledFrom old new given from stop low last on lower
+      pub cell-put : (new cells : List Cell) (lower n : ℕ) → length cells ≡ n → map under cells ≡ filling t.given (get_or t.old on Comma) → t.low ≤ lower → lower + n ≡ to → length new ≡ length now → take lower new ≡ take lower now → drop lower new ≡ map under cells ++ drop (lower + n) now → FilledFrom t new on lower
       cell-put new cells lower n size are room is same front behind =
           along-more new (map under cells) on lower n order (omega (arith, next)) room is (length-map cells under ∙ size) same
           (behind ∙ ap (λ i. map under cells ++ drop i now) is)
-          (sym (take-take low lower new room) ∙ ap (take low) front ∙ take-take low lower now room)
+          (sym (take-take t.low lower new room) ∙ ap (take t.low) front ∙ take-take t.low lower now room)
           (last-cell ∙ sym are)
 
     -- nothing is left
-    pub along-end : at ≡ from → IsPut old now low last (filled given (slice_range old from stop)) (Some to)
+    pub along-end : at ≡ t.from → IsPut t.old now t.low t.last (filled t.given (slice_range t.old t.from t.stop)) (Some to)
     along-end end =
-        let none : at - from ≡ 0 = omega (arith, end) in
-        let all : filled given (slice_range old from stop) ≡ h.done = h.split ∙ ap (λ k. filled given (take k (drop from old)) ++ h.done) none in
-        (omega (arith, h.long, ap length all), h.room, h.behind ∙ ap (λ cells. cells ++ drop last old) (sym all))
+        let none : at - t.from ≡ 0 = omega (arith, end) in
+        let all : filled t.given (slice_range t.old t.from t.stop) ≡ h.done = h.split ∙ ap (λ k. filled t.given (take k (drop t.from t.old)) ++ h.done) none in
+        (omega (arith, h.long, ap length all), h.room, h.behind ∙ ap (λ cells. cells ++ drop t.last t.old) (sym all))
 
     -- the others are put by a further call
-    pub along-rest : (new : List Cell) (result : Option ℕ) → IsPut now new low to (filled given (slice_range old from at)) result → IsPut old new low last (filled given (slice_range old from stop)) result
+    pub along-rest : (new : List Cell) (result : Option ℕ) → IsPut now new t.low to (filled t.given (slice_range t.old t.from at)) result → IsPut t.old new t.low t.last (filled t.given (slice_range t.old t.from t.stop)) result
     along-rest new None put =
-        omega (arith, put, h.long, ap length h.split, length-append (filled given (slice_range old from at)) h.done)
+        omega (arith, put, h.long, ap length h.split, length-append (filled t.given (slice_range t.old t.from at)) h.done)
     along-rest new (Some start) put =
-        let rest = filled given (slice_range old from at) in (
+        let rest = filled t.given (slice_range t.old t.from at) in (
           omega (arith, put.0, h.long, ap length h.split, length-append rest h.done),
           put.1,
-          put.2 ∙ ap (λ cells. rest ++ cells) h.behind ∙ sym (append_assoc rest h.done (drop last old)) ∙ ap (λ cells. cells ++ drop last old) (sym h.split),
+          put.2 ∙ ap (λ cells. rest ++ cells) h.behind ∙ sym (append_assoc rest h.done (drop t.last t.old)) ∙ ap (λ cells. cells ++ drop t.last t.old) (sym h.split),
         )
 
     -- what stands behind the last place stays
-    pub along-behind : drop last now ≡ drop last old
+    pub along-behind : drop t.last now ≡ drop t.last t.old
     along-behind =
         let long = h.long in
-        let e : to + (last - to) ≡ last = omega (arith, long) in
-        let d : last - to ≡ length h.done = omega (arith, long) in
-        ap (λ i. drop i now) (sym e) ∙ sym (drop-drop (last - to) to now) ∙ ap (drop (last - to)) h.behind
-        ∙ ap (λ k. drop k (h.done ++ drop last old)) d ∙ drop-append_seam h.done (drop last old)
+        let e : to + (t.last - to) ≡ t.last = omega (arith, long) in
+        let d : t.last - to ≡ length h.done = omega (arith, long) in
+        ap (λ i. drop i now) (sym e) ∙ sym (drop-drop (t.last - to) to now) ∙ ap (drop (t.last - to)) h.behind
+        ∙ ap (λ k. drop k (h.done ++ drop t.last t.old)) d ∙ drop-append_seam h.done (drop t.last t.old)
 
 -- what fills a cell that is no character
 pub filling-gap : (given : List Cell) (cell : Cell) → is_byte_cell cell ≡ false → filling given cell ≡ part_between given (ordinal_of cell)

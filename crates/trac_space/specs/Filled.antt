@@ -2,6 +2,7 @@
 use Rattle.std.specs.Prelude.{◌≡◌, ℕ, suc, true, ◌+◌, ◌<◌, ◌≤◌, List, [], ◌∷◌, ◌++◌, length, drop, map}
 use Rattle.std.specs.Prelude.{slice_range, slice_index_or, if◌then◌else◌, Option, MatchOption}
 use Rattle.trac_space.specs.declared.cell.Cell.{Cell}
+use Rattle.trac_space.specs.declared.filling.Given.{Given}
 use Rattle.trac_space.specs.declared.cell.Cell.TheVariants.{Byte, Call, Comma, Gap, Head}
 use Rattle.trac_space.specs.Cells.{is_comma}
 use Rattle.trac_space.specs.Overlay.{under, over, has_number}
@@ -49,6 +50,16 @@ pub record HaveCommas (cells : List Cell) (count : ℕ) : Type 0 where
   pub laid : (k : ℕ) → k < count → has_number (slice_index_or cells k Comma) ≡ true
   pub ends : (k : ℕ) → k < count →
       over (slice_index_or cells k Comma) ≡ (numbered_part (parts_at 0 0 (map under cells)) (suc k)).1
+
+-- the given cells, without the numbers that lie over them
+abbrev pub given_cells : List Cell → Given → List Cell
+given_cells cells given = map under (slice_range cells given.start (given.start + given.len))
+
+-- the given cells stand in a block, and the places of their comma marks lie over the first of them
+pub record AreGiven (cells : List Cell) (given : Given) : Type 0 where
+  pub inside : given.start + given.len ≤ length cells
+  pub bounded : length cells ≤ 16777216
+  pub commas : HaveCommas (slice_range cells given.start (given.start + given.len)) given.commas
 
 -- more cells were put right before place `to`, and the result is where they begin; or they would begin before
 -- place `low`

@@ -1,18 +1,13 @@
-//! Copies of cells within the block that a `Space` is lent, and runs of characters there.
+//! Copies of cells within the block that a `Space` is lent.
 //!
 //! Each `copy_..` meets the contract of std's `copy_within`. They differ in what they are fast for:
-//! `higher` and `lower` say where the target lies, `apart` that the ranges are disjoint, `by_..` how many
-//! cells go at once.
-ghost use Rattle.std.specs.Prelude.{◌≡◌, ◌+◌, ◌-◌, ◌≤◌, ◌<◌, ◌⊎◌};
-ghost use Rattle.std.specs.Prelude.{All, IsTrue, drop, false, ℕ};
-ghost use Rattle.std.specs.Prelude.{length, take, ◌++◌, ◌==◌, if◌then◌else◌, slice_index_or};
+//! `higher`, `lower` and `UP` say where the target lies, `apart` that the ranges are disjoint, `by_..` how
+//! many cells go at once.
+ghost use Rattle.std.specs.Prelude.{◌≡◌, ◌+◌, ◌-◌, ◌≤◌, ◌<◌, ◌⊎◌, length};
 ghost use Rattle.std.specs.List.{copy_within};
-ghost use Rattle.trac_space.specs.declared.cell.Cell.TheVariants.{Byte};
-ghost use Rattle.trac_space.specs.Cells.{NoComma};
-ghost use Rattle.trac_space.specs.Runs.{IsInRun, number_in, turned, with_cells_at};
-ghost use Rattle.trac_space.specs.Texts.{IsByte, byte_cell_at};
+ghost use Rattle.trac_space.specs.Apart.{IsApart};
 
-use crate::cell::{Cell, are_characters, are_four, are_two, byte_in, is_character};
+use crate::cell::Cell;
 
 // A long copy moves this many cells at once.
 const CELLS_IN_A_PART: usize = 256;
@@ -23,25 +18,14 @@ const MOST_OVERLAPPING_BY_BLOCKS: usize = 48;
 // The cells of a block, which are copied or tested together.
 pub(crate) const BLOCK: usize = 8;
 
-// Copies cells as `copy_within` does. Fewer than a block need no call.
-#[inline]
-pub(crate) fn copy_cells(cells: &mut [Cell], start: usize, end: usize, to: usize)
-    requires order { start ≤ end }
-    requires within { end ≤ length cells.old }
-    requires room { to + (end - start) ≤ length cells.old }
-    ensures len { length cells.new ≡ length cells.old }
-    ensures after { cells.new ≡ copy_within cells.old start end to }
-{
-    if end - start < BLOCK {
-        cells.copy_within(start..end, to);
-    } else {
-        copy_long(cells, start, end, to);
-    }
-}
+// Where the target of a copy between disjoint ranges lies: the parameter `UP` of such a copy.
+pub(crate) const HIGHER: bool = true;
+
+pub(crate) const LOWER: bool = false;
 
 // Copies cells as `copy_within` does. One cell needs no call, nor do a few blocks to a lower place.
 #[inline]
-pub(crate) fn copy_mostly_one(cells: &mut [Cell], start: usize, end: usize, to: usize)
+pub(crate) fn copy_cells(cells: &mut [Cell], start: usize, end: usize, to: usize)
     requires order { start ≤ end }
     requires within { end ≤ length cells.old }
     requires room { to + (end - start) ≤ length cells.old }
@@ -70,9 +54,9 @@ fn copy_long(cells: &mut [Cell], start: usize, end: usize, to: usize)
 {
     if end - start < BLOCK {
         cells.copy_within(start..end, to);
-    } else if end <= to {
+    } else if end <= to && end - start <= CELLS_IN_A_PART {
         copy_disjoint(cells, start, end, to);
-    } else if to + (end - start) <= start {
+    } else if to + (end - start) <= start && end - start <= CELLS_IN_A_PART {
         copy_disjoint(cells, start, end, to);
     } else if start.abs_diff(to) < BLOCK {
         cells.copy_within(start..end, to);
@@ -85,7 +69,7 @@ fn copy_long(cells: &mut [Cell], start: usize, end: usize, to: usize)
     }
 }
 
-// Copies cells as `copy_within` does, between disjoint ranges in either order.
+// Copies cells as `copy_within` does, between disjoint ranges in either order, as memory.
 #[inline]
 fn copy_disjoint(cells: &mut [Cell], start: usize, end: usize, to: usize)
     requires order { start ≤ end }
@@ -98,10 +82,10 @@ fn copy_disjoint(cells: &mut [Cell], start: usize, end: usize, to: usize)
     let n = end - start;
     if end <= to {
         let (front, back) = cells.split_at_mut(to);
-        copy_slice(&front[start..end], &mut back[..n]);
+        back[..n].copy_from_slice(&front[start..end]);
     } else {
         let (front, back) = cells.split_at_mut(start);
-        copy_slice(&back[..n], &mut front[to..to + n]);
+        front[to..to + n].copy_from_slice(&back[..n]);
     }
 }
 
@@ -142,178 +126,6 @@ fn copy_lower_by_parts(cells: &mut [Cell], start: usize, end: usize, to: usize)
     }
 }
 
-// Copies one slice over another of the same length.
-#[inline]
-fn copy_slice(from: &[Cell], to: &mut [Cell])
-    requires { length from.now ≡ length to.old }
-    ensures { to.new ≡ from.now }
-{
-    if from.len() <= CELLS_IN_A_PART {
-        to.copy_from_slice(from);
-    } else {
-        copy_slice_by_parts(from, to);
-    }
-}
-
-// Copies one slice over another of the same length, part by part.
-#[inline(never)]
-fn copy_slice_by_parts(from: &[Cell], to: &mut [Cell])
-    requires { length from.now ≡ length to.old }
-    ensures { to.new ≡ from.now }
-{
-    let mut done = 0;
-    while done < from.len() {
-        let end = done + CELLS_IN_A_PART.min(from.len() - done);
-        to[done..end].copy_from_slice(&from[done..end]);
-        done = end;
-    }
-}
-
-// Copies characters to a lower place, at most `most`. `table` has a number for each byte: 0 keeps the
-// character, 1 makes it a comma mark, a higher number ends the run before it. Gives the length of the
-// run, and the place in it behind its last comma mark.
-#[inline]
-pub(crate) fn copy_turned(
-    cells: &mut [Cell],
-    start: usize,
-    to: usize,
-    most: usize,
-    table: &[u8],
-) -> (usize, usize)
-    requires before { to ≤ start }
-    requires within { start + most ≤ length cells.old }
-    requires bytes { All IsByte (take most (drop start cells.old)) }
-    requires whole { length table.now ≡ 256 }
-    ensures few { result.0 ≤ most }
-    ensures run { All (IsInRun table.now) (take result.0 (drop start cells.old)) }
-    ensures ends { result.0 < most →
-        1 < number_in table.now (slice_index_or cells.old (start + result.0) (Byte 0)) }
-    ensures last { result.1 ≤ result.0 }
-    ensures plain { NoComma (drop result.1 (take result.0
-        (turned table.now (drop start cells.old)))) }
-    ensures len { length cells.new ≡ length cells.old }
-    ensures after { cells.new ≡
-        with_cells_at cells.old to (turned table.now (drop start cells.old)) result.0 }
-{
-    let mut count = 0;
-    let mut last = 0;
-    while count < most {
-        let byte = byte_in(&cells[start + count]);
-        let number = table[usize::from(byte)];
-        if number == 0 {
-            cells[to + count] = Cell::Byte(byte);
-        } else if number == 1 {
-            cells[to + count] = Cell::Comma;
-            last = count + 1;
-        } else {
-            return (count, last);
-        }
-        count += 1;
-    }
-    (count, last)
-}
-
-// Whether the `n` cells from place `at` on are all characters. Tests eight cells at a time; the last
-// group may overlap the one before it.
-#[inline(always)]
-pub(crate) fn are_all_characters(cells: &[Cell], at: usize, n: usize) -> bool
-    requires { at + n ≤ length cells.now }
-    ensures { IsTrue result → All IsByte (take n (drop at cells.now)) }
-{
-    if n < BLOCK {
-        return are_few_characters(cells, at, n);
-    }
-    let mut done = 0;
-    while n - done > BLOCK {
-        if !are_characters(cells, at + done) {
-            return false;
-        }
-        done += BLOCK;
-    }
-    are_characters(cells, at + (n - BLOCK))
-}
-
-// Whether the `n` cells from place `at` on, at most eight, are all characters.
-#[inline(always)]
-fn are_few_characters(cells: &[Cell], at: usize, n: usize) -> bool
-    requires few { n ≤ 8 }
-    requires within { at + n ≤ length cells.now }
-    ensures { IsTrue result → All IsByte (take n (drop at cells.now)) }
-{
-    if n >= 4 {
-        are_four(cells, at) && are_four(cells, at + (n - 4))
-    } else if n >= 2 {
-        are_two(cells, at) && are_two(cells, at + (n - 2))
-    } else {
-        n == 0 || is_character(&cells[at])
-    }
-}
-
-// How many characters stand in a row from place `start` on; counts up to `most`.
-#[inline(always)]
-pub(crate) fn characters_from(cells: &[Cell], start: usize, most: usize) -> usize
-    requires { start + most ≤ length cells.now }
-    ensures few { result ≤ most }
-    ensures bytes { All IsByte (take result (drop start cells.now)) }
-    ensures stop { result < most → byte_cell_at cells.now (start + result) ≡ false }
-{
-    let mut count = 0;
-    while most - count >= BLOCK {
-        let more = characters_in_block(cells, start + count);
-        count += more;
-        if more < BLOCK {
-            return count;
-        }
-    }
-    count + characters_each(cells, start + count, most - count)
-}
-
-// How many characters stand in a row from place `start` on; counts up to `most`, cell by cell.
-#[inline]
-fn characters_each(cells: &[Cell], start: usize, most: usize) -> usize
-    requires { start + most ≤ length cells.now }
-    ensures few { result ≤ most }
-    ensures bytes { All IsByte (take result (drop start cells.now)) }
-    ensures stop { result < most → byte_cell_at cells.now (start + result) ≡ false }
-{
-    let mut count = 0;
-    while count < most && is_character(&cells[start + count]) {
-        count += 1;
-    }
-    count
-}
-
-// How many characters stand in a row right before place `at`; counts up to eight.
-#[inline]
-pub(crate) fn characters_before(cells: &[Cell], at: usize) -> usize
-    requires behind { 8 ≤ at }
-    requires within { at ≤ length cells.now }
-    ensures few { result ≤ 8 }
-    ensures bytes { All IsByte (take result (drop (at - result) cells.now)) }
-    ensures stop { result < 8 → byte_cell_at cells.now (at - result - 1) ≡ false }
-{
-    let mut count = 0;
-    while count < BLOCK && is_character(&cells[at - count - 1]) {
-        count += 1;
-    }
-    count
-}
-
-// How many of the eight cells from place `at` on stand before the first that is no character.
-#[inline]
-pub(crate) fn characters_in_block(cells: &[Cell], at: usize) -> usize
-    requires { at + 8 ≤ length cells.now }
-    ensures few { result ≤ 8 }
-    ensures bytes { All IsByte (take result (drop at cells.now)) }
-    ensures stop { result < 8 → byte_cell_at cells.now (at + result) ≡ false }
-{
-    let mut count = 0;
-    while count < BLOCK && is_character(&cells[at + count]) {
-        count += 1;
-    }
-    count
-}
-
 // Copies cells as `copy_within` does. A short copy to a higher place apart needs no call.
 #[inline(always)]
 pub(crate) fn copy_mostly_apart(cells: &mut [Cell], start: usize, end: usize, to: usize)
@@ -324,7 +136,7 @@ pub(crate) fn copy_mostly_apart(cells: &mut [Cell], start: usize, end: usize, to
     ensures after { cells.new ≡ copy_within cells.old start end to }
 {
     if end <= to && end - start <= MOST_INLINE {
-        copy_short_higher(cells, start, to - start, end - start);
+        copy_short::<HIGHER>(cells, start, end - start, to);
     } else {
         copy_cells(cells, start, end, to);
     }
@@ -341,163 +153,28 @@ pub(crate) fn copy_higher(cells: &mut [Cell], start: usize, end: usize, to: usiz
 {
     let n = end - start;
     if n >= BLOCK && n <= MOST_OVERLAPPING_BY_BLOCKS && to - start >= BLOCK {
-        copy_higher_by_blocks(cells, start, n, to - start);
+        copy_higher_by_blocks(cells, start, n, to);
     } else {
         copy_cells(cells, start, end, to);
     }
 }
 
-// Copies cells as `copy_within` does, to a place that is a block higher or more: block by block,
+// Copies `n` cells as `copy_within` does, to a place that is a block higher or more: block by block,
 // beginning with the last. The first block may overlap the second; its cells aren't overwritten yet.
 #[inline(always)]
-fn copy_higher_by_blocks(cells: &mut [Cell], start: usize, n: usize, distance: usize)
+fn copy_higher_by_blocks(cells: &mut [Cell], start: usize, n: usize, to: usize)
     requires some { 8 ≤ n }
-    requires behind { 8 ≤ distance }
-    requires room { start + distance + n ≤ length cells.old }
-    ensures len { length cells.new ≡ length cells.old }
-    ensures after { (to : ℕ) → to ≡ start + distance →
-        cells.new ≡ copy_within cells.old start (start + n) to }
-{
-    let mut left = n;
-    while left > BLOCK {
-        left -= BLOCK;
-        copy_at_once_higher::<BLOCK>(cells, start + left, distance);
-    }
-    copy_at_once_higher::<BLOCK>(cells, start, distance);
-}
-
-// Copies `n` cells as `copy_within` does, to a lower place apart. Up to `MOST_INLINE` need no call.
-#[inline(always)]
-pub(crate) fn copy_apart_lower(cells: &mut [Cell], start: usize, n: usize, to: usize)
-    requires apart { to + n ≤ start }
-    requires within { start + n ≤ length cells.old }
-    ensures len { length cells.new ≡ length cells.old }
-    ensures after { cells.new ≡ copy_within cells.old start (start + n) to }
-{
-    if n > MOST_INLINE {
-        copy_long(cells, start, start + n, to);
-    } else if n >= BLOCK {
-        copy_lower_by_blocks(cells, start, n, to);
-    } else if n >= 4 {
-        copy_lower_by_halves::<4>(cells, start, n, to);
-    } else if n >= 2 {
-        copy_lower_by_halves::<2>(cells, start, n, to);
-    } else if n == 1 {
-        copy_at_once_lower::<1>(cells, start, to);
-    }
-}
-
-// Copies `n` cells as `copy_within` does, to a lower place apart: the first `HALF` cells, then the last
-// `HALF`, which may overlap them.
-#[inline(always)]
-fn copy_lower_by_halves<const HALF: usize>(cells: &mut [Cell], start: usize, n: usize, to: usize)
-    requires some { HALF ≤ n }
-    requires few { n ≤ HALF + HALF }
-    requires apart { to + n ≤ start }
-    requires within { start + n ≤ length cells.old }
-    ensures len { length cells.new ≡ length cells.old }
-    ensures after { cells.new ≡ copy_within cells.old start (start + n) to }
-{
-    copy_at_once_lower::<HALF>(cells, start, to);
-    copy_at_once_lower::<HALF>(cells, start + (n - HALF), to + (n - HALF));
-}
-
-// Copies `N` cells as `copy_within` does, to a lower place apart, all at once.
-#[inline(always)]
-fn copy_at_once_lower<const N: usize>(cells: &mut [Cell], start: usize, to: usize)
-    requires apart { to + N ≤ start }
-    requires within { start + N ≤ length cells.old }
-    ensures len { length cells.new ≡ length cells.old }
-    ensures after { cells.new ≡ copy_within cells.old start (start + N) to }
-{
-    let (front, back) = cells.split_at_mut(start);
-    put_at_once::<N>(&back[..N], &mut front[to..to + N]);
-}
-
-// Copies `N` cells over as many, all at once.
-#[inline(always)]
-fn put_at_once<const N: usize>(from: &[Cell], to: &mut [Cell])
-    requires from { length from.now ≡ N }
-    requires to { length to.old ≡ N }
-    ensures { to.new ≡ from.now }
-{
-    if let Some(place) = to.as_mut_array::<N>() {
-        if let Some(cells) = from.as_array::<N>() {
-            *place = *cells;
-        }
-    }
-}
-
-// Copies `n` cells as `copy_within` does, to a place that is `distance` higher and apart, without a
-// call: by blocks, or by two halves where they are fewer than a block.
-#[inline(always)]
-pub(crate) fn copy_short_higher(cells: &mut [Cell], start: usize, distance: usize, n: usize)
-    requires apart { n ≤ distance }
-    requires room { start + distance + n ≤ length cells.old }
-    ensures len { length cells.new ≡ length cells.old }
-    ensures after { (to : ℕ) → to ≡ start + distance →
-        cells.new ≡ copy_within cells.old start (start + n) to }
-{
-    if n > 2 * BLOCK {
-        copy_higher_by_blocks(cells, start, n, distance);
-    } else if n >= BLOCK {
-        copy_higher_by_halves::<BLOCK>(cells, start, distance, n);
-    } else if n >= 4 {
-        copy_higher_by_halves::<4>(cells, start, distance, n);
-    } else if n >= 2 {
-        copy_higher_by_halves::<2>(cells, start, distance, n);
-    } else if n == 1 {
-        copy_at_once_higher::<1>(cells, start, distance);
-    }
-}
-
-// Copies `n` cells as `copy_within` does, to a higher place apart. Up to `MOST_INLINE` need no call.
-#[inline(always)]
-pub(crate) fn copy_apart_higher(cells: &mut [Cell], start: usize, n: usize, to: usize)
-    requires apart { start + n ≤ to }
+    requires behind { start + 8 ≤ to }
     requires room { to + n ≤ length cells.old }
     ensures len { length cells.new ≡ length cells.old }
     ensures after { cells.new ≡ copy_within cells.old start (start + n) to }
 {
-    if n > MOST_INLINE {
-        copy_long(cells, start, start + n, to);
-    } else {
-        copy_short_higher(cells, start, to - start, n);
+    let mut left = n;
+    while left > BLOCK {
+        left -= BLOCK;
+        copy_at_once::<BLOCK, HIGHER>(cells, start + left, to + left);
     }
-}
-
-// Copies `n` cells as `copy_within` does, to a place that is `distance` higher and apart: the first
-// `HALF` cells, then the last `HALF`, which may overlap them.
-#[inline(always)]
-fn copy_higher_by_halves<const HALF: usize>(
-    cells: &mut [Cell],
-    start: usize,
-    distance: usize,
-    n: usize,
-)
-    requires some { HALF ≤ n }
-    requires few { n ≤ HALF + HALF }
-    requires apart { n ≤ distance }
-    requires room { start + distance + n ≤ length cells.old }
-    ensures len { length cells.new ≡ length cells.old }
-    ensures after { (to : ℕ) → to ≡ start + distance →
-        cells.new ≡ copy_within cells.old start (start + n) to }
-{
-    copy_at_once_higher::<HALF>(cells, start, distance);
-    copy_at_once_higher::<HALF>(cells, start + (n - HALF), distance);
-}
-
-// Copies `N` cells as `copy_within` does, to a place that is `distance` higher and apart, all at once.
-#[inline(always)]
-pub(crate) fn copy_at_once_higher<const N: usize>(cells: &mut [Cell], start: usize, distance: usize)
-    requires apart { N ≤ distance }
-    requires room { start + distance + N ≤ length cells.old }
-    ensures len { length cells.new ≡ length cells.old }
-    ensures after { (to : ℕ) → to ≡ start + distance →
-        cells.new ≡ copy_within cells.old start (start + N) to }
-{
-    let (front, back) = cells.split_at_mut(start + distance);
-    put_at_once::<N>(&front[start..start + N], &mut back[..N]);
+    copy_at_once::<BLOCK, HIGHER>(cells, start, to);
 }
 
 // Copies `n` cells as `copy_within` does, to a place that is a block lower or more: block by block,
@@ -512,8 +189,121 @@ fn copy_lower_by_blocks(cells: &mut [Cell], start: usize, n: usize, to: usize)
 {
     let mut done = 0;
     while n - done > BLOCK {
-        copy_at_once_lower::<BLOCK>(cells, start + done, to + done);
+        copy_at_once::<BLOCK, LOWER>(cells, start + done, to + done);
         done += BLOCK;
     }
-    copy_at_once_lower::<BLOCK>(cells, start + (n - BLOCK), to + (n - BLOCK));
+    copy_at_once::<BLOCK, LOWER>(cells, start + (n - BLOCK), to + (n - BLOCK));
+}
+
+// Copies `n` cells as `copy_within` does, to a place apart, block by block.
+#[inline(always)]
+fn copy_by_blocks<const UP: bool>(cells: &mut [Cell], start: usize, n: usize, to: usize)
+    requires some { 8 ≤ n }
+    requires apart { IsApart UP start n to }
+    requires within { start + n ≤ length cells.old }
+    requires room { to + n ≤ length cells.old }
+    ensures len { length cells.new ≡ length cells.old }
+    ensures after { cells.new ≡ copy_within cells.old start (start + n) to }
+{
+    if UP {
+        copy_higher_by_blocks(cells, start, n, to);
+    } else {
+        copy_lower_by_blocks(cells, start, n, to);
+    }
+}
+
+// Copies `n` cells as `copy_within` does, to a place apart. Up to `MOST_INLINE` need no call.
+#[inline(always)]
+pub(crate) fn copy_apart<const UP: bool>(cells: &mut [Cell], start: usize, n: usize, to: usize)
+    requires apart { IsApart UP start n to }
+    requires within { start + n ≤ length cells.old }
+    requires room { to + n ≤ length cells.old }
+    ensures len { length cells.new ≡ length cells.old }
+    ensures after { cells.new ≡ copy_within cells.old start (start + n) to }
+{
+    if n > MOST_INLINE {
+        copy_long(cells, start, start + n, to);
+    } else {
+        copy_short::<UP>(cells, start, n, to);
+    }
+}
+
+// Copies `n` cells as `copy_within` does, to a place apart, without a call: by blocks, or by two halves where
+// they are fewer than two.
+#[inline(always)]
+pub(crate) fn copy_short<const UP: bool>(cells: &mut [Cell], start: usize, n: usize, to: usize)
+    requires apart { IsApart UP start n to }
+    requires within { start + n ≤ length cells.old }
+    requires room { to + n ≤ length cells.old }
+    ensures len { length cells.new ≡ length cells.old }
+    ensures after { cells.new ≡ copy_within cells.old start (start + n) to }
+{
+    if n > 2 * BLOCK {
+        copy_by_blocks::<UP>(cells, start, n, to);
+    } else if n >= BLOCK {
+        copy_by_halves::<BLOCK, UP>(cells, start, n, to);
+    } else if n >= 4 {
+        copy_by_halves::<4, UP>(cells, start, n, to);
+    } else if n >= 2 {
+        copy_by_halves::<2, UP>(cells, start, n, to);
+    } else if n == 1 {
+        copy_at_once::<1, UP>(cells, start, to);
+    }
+}
+
+// Copies `n` cells as `copy_within` does, to a place apart: the first `HALF` cells, then the last `HALF`,
+// which may overlap them.
+#[inline(always)]
+fn copy_by_halves<const HALF: usize, const UP: bool>(
+    cells: &mut [Cell],
+    start: usize,
+    n: usize,
+    to: usize,
+)
+    requires some { HALF ≤ n }
+    requires few { n ≤ HALF + HALF }
+    requires apart { IsApart UP start n to }
+    requires within { start + n ≤ length cells.old }
+    requires room { to + n ≤ length cells.old }
+    ensures len { length cells.new ≡ length cells.old }
+    ensures after { cells.new ≡ copy_within cells.old start (start + n) to }
+{
+    copy_at_once::<HALF, UP>(cells, start, to);
+    copy_at_once::<HALF, UP>(cells, start + (n - HALF), to + (n - HALF));
+}
+
+// Copies `N` cells as `copy_within` does, to a place apart, all at once.
+#[inline(always)]
+pub(crate) fn copy_at_once<const N: usize, const UP: bool>(
+    cells: &mut [Cell],
+    start: usize,
+    to: usize,
+)
+    requires apart { IsApart UP start N to }
+    requires within { start + N ≤ length cells.old }
+    requires room { to + N ≤ length cells.old }
+    ensures len { length cells.new ≡ length cells.old }
+    ensures after { cells.new ≡ copy_within cells.old start (start + N) to }
+{
+    if UP {
+        let (front, back) = cells.split_at_mut(to);
+        put_at_once::<N>(&front[start..start + N], &mut back[..N]);
+    } else {
+        let (front, back) = cells.split_at_mut(start);
+        put_at_once::<N>(&back[..N], &mut front[to..to + N]);
+    }
+}
+
+// Copies `N` cells over as many, all at once.
+#[inline(always)]
+fn put_at_once<const N: usize>(from: &[Cell], to: &mut [Cell])
+    requires from { length from.now ≡ N }
+    requires to { length to.old ≡ N }
+    ensures { to.new ≡ from.now }
+{
+    if let Some(place) = to.as_mut_array::<N>() {
+        if let Some(cells) = from.as_array::<N>() {
+            *place = *cells;
+        }
+    }
 }

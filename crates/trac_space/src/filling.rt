@@ -5,12 +5,13 @@ ghost use Rattle.std.specs.Prelude.{map, slice_range, slice_index_or, suc};
 ghost use Rattle.std.specs.List.{copy_within};
 ghost use Rattle.trac_space.specs.declared.cell.Cell.TheVariants.{Comma};
 ghost use Rattle.trac_space.specs.Cells.{NoComma};
-ghost use Rattle.trac_space.specs.Filled.{ordinal_of, part_between, filling, filled, HaveCommas};
+ghost use Rattle.trac_space.specs.Filled.{AreGiven, given_cells, ordinal_of, part_between, filling, filled, HaveCommas};
 ghost use Rattle.trac_space.specs.Filled.{IsPut, parts_at, numbered_part};
 ghost use Rattle.trac_space.specs.Overlay.{takes_number, under};
 
 use crate::cell::{Cell, is_character, is_comma};
-use crate::copies::{BLOCK, characters_before, copy_at_once_higher, copy_short_higher};
+use crate::character_runs::characters_before;
+use crate::copies::{BLOCK, HIGHER, copy_at_once, copy_short};
 use crate::overlay::{cell_under, laid, lift, number_over_laid};
 
 // The cells whose parts fill the gaps: where they begin in the block, how many they are, and how many
@@ -61,11 +62,8 @@ pub(crate) fn fill_cells(
     requires behind { given.start + given.len ≤ low }
     requires room { low ≤ to }
     requires inside { to ≤ length cells.old }
-    requires bounded { length cells.old ≤ 16777216 }
-    requires commas { let parts = slice_range cells.old given.start (given.start + given.len) in
-        HaveCommas parts given.commas }
-    ensures put { let parts = map under (slice_range cells.old given.start (given.start + given.len)) in
-        let more = filled parts (slice_range cells.old from stop) in
+    requires given { AreGiven cells.old given }
+    ensures put { let more = filled (given_cells cells.old given) (slice_range cells.old from stop) in
         IsPut cells.old cells.new low to more result }
     ensures len { length cells.new ≡ length cells.old }
     ensures front { take low cells.new ≡ take low cells.old }
@@ -74,7 +72,7 @@ pub(crate) fn fill_cells(
     let mut at = stop;
     let mut to = to;
     while at >= BLOCK && distance(low, to) >= BLOCK {
-        copy_at_once_higher::<BLOCK>(cells, at - BLOCK, distance(at, to));
+        copy_at_once::<BLOCK, HIGHER>(cells, at - BLOCK, to - BLOCK);
         let run = characters_before(cells, at);
         if at - from <= run {
             return Some(to - (at - from));
@@ -110,11 +108,8 @@ fn fill_each(
     requires behind { given.start + given.len ≤ low }
     requires room { low ≤ to }
     requires inside { to ≤ length cells.old }
-    requires bounded { length cells.old ≤ 16777216 }
-    requires commas { let parts = slice_range cells.old given.start (given.start + given.len) in
-        HaveCommas parts given.commas }
-    ensures put { let parts = map under (slice_range cells.old given.start (given.start + given.len)) in
-        let more = filled parts (slice_range cells.old from stop) in
+    requires given { AreGiven cells.old given }
+    ensures put { let more = filled (given_cells cells.old given) (slice_range cells.old from stop) in
         IsPut cells.old cells.new low to more result }
     ensures len { length cells.new ≡ length cells.old }
     ensures front { take low cells.new ≡ take low cells.old }
@@ -157,7 +152,7 @@ fn put_lifted(cells: &mut [Cell], start: usize, to: usize, n: usize, given: Give
         cells[to] = cell_under(cells[start]);
         return;
     }
-    copy_short_higher(cells, start, distance(start, to), n);
+    copy_short::<HIGHER>(cells, start, n, to);
     lift(&mut cells[to..to + n.min(laid - start)]);
 }
 
@@ -171,9 +166,9 @@ fn put_plain(cells: &mut [Cell], start: usize, to: usize, n: usize)
     ensures after { cells.new ≡ copy_within cells.old start (start + n) to }
 {
     if n == 1 {
-        copy_at_once_higher::<1>(cells, start, distance(start, to));
+        copy_at_once::<1, HIGHER>(cells, start, to);
     } else {
-        copy_short_higher(cells, start, distance(start, to), n);
+        copy_short::<HIGHER>(cells, start, n, to);
     }
 }
 
@@ -192,14 +187,10 @@ fn distance(start: usize, to: usize) -> usize
 #[inline]
 fn filling_of(cells: &[Cell], at: usize, given: Given) -> (usize, usize)
     requires before { at < given.start }
-    requires inside { given.start + given.len ≤ length cells.now }
-    requires bounded { length cells.now ≤ 16777216 }
-    requires commas { let parts = slice_range cells.now given.start (given.start + given.len) in
-        HaveCommas parts given.commas }
+    requires given { AreGiven cells.now given }
     ensures within { result.0 + result.1 ≤ given.start + given.len }
-    ensures cells { let parts = map under (slice_range cells.now given.start (given.start + given.len)) in
-        map under (slice_range cells.now result.0 (result.0 + result.1)) ≡
-        filling parts (slice_index_or cells.now at Comma) }
+    ensures cells { map under (slice_range cells.now result.0 (result.0 + result.1)) ≡
+        filling (given_cells cells.now given) (slice_index_or cells.now at Comma) }
     ensures others { let laid = given.start + given.commas in
         let rest = drop (laid - result.0) (slice_range cells.now result.0 (result.0 + result.1)) in
         map under rest ≡ rest }
@@ -214,14 +205,10 @@ fn filling_of(cells: &[Cell], at: usize, given: Given) -> (usize, usize)
 // part.
 #[inline(always)]
 fn part_numbered(cells: &[Cell], number: u32, given: Given) -> (usize, usize)
-    requires inside { given.start + given.len ≤ length cells.now }
-    requires bounded { length cells.now ≤ 16777216 }
-    requires commas { let parts = slice_range cells.now given.start (given.start + given.len) in
-        HaveCommas parts given.commas }
+    requires { AreGiven cells.now given }
     ensures within { result.0 + result.1 ≤ given.start + given.len }
-    ensures cells { let parts = map under (slice_range cells.now given.start (given.start + given.len)) in
-        map under (slice_range cells.now result.0 (result.0 + result.1)) ≡
-        part_between parts number }
+    ensures cells { map under (slice_range cells.now result.0 (result.0 + result.1)) ≡
+        part_between (given_cells cells.now given) number }
     ensures others { let laid = given.start + given.commas in
         let rest = drop (laid - result.0) (slice_range cells.now result.0 (result.0 + result.1)) in
         map under rest ≡ rest }
@@ -239,12 +226,9 @@ fn part_numbered(cells: &[Cell], number: u32, given: Given) -> (usize, usize)
 #[inline(always)]
 fn part_begin(cells: &[Cell], place: usize, given: Given) -> usize
     requires place { place ≤ given.commas }
-    requires inside { given.start + given.len ≤ length cells.now }
-    requires bounded { length cells.now ≤ 16777216 }
-    requires commas { let parts = slice_range cells.now given.start (given.start + given.len) in
-        HaveCommas parts given.commas }
-    ensures { let parts = map under (slice_range cells.now given.start (given.start + given.len)) in
-        result ≡ (numbered_part (parts_at 0 0 parts) (suc place)).0 }
+    requires given { AreGiven cells.now given }
+    ensures { let parts = parts_at 0 0 (given_cells cells.now given) in
+        result ≡ (numbered_part parts (suc place)).0 }
 {
     if place == 0 {
         return 0;
@@ -256,12 +240,9 @@ fn part_begin(cells: &[Cell], place: usize, given: Given) -> usize
 #[inline(always)]
 fn part_end(cells: &[Cell], place: usize, given: Given) -> usize
     requires place { place ≤ given.commas }
-    requires inside { given.start + given.len ≤ length cells.now }
-    requires bounded { length cells.now ≤ 16777216 }
-    requires commas { let parts = slice_range cells.now given.start (given.start + given.len) in
-        HaveCommas parts given.commas }
-    ensures { let parts = map under (slice_range cells.now given.start (given.start + given.len)) in
-        result ≡ (numbered_part (parts_at 0 0 parts) (suc place)).1 }
+    requires given { AreGiven cells.now given }
+    ensures { let parts = parts_at 0 0 (given_cells cells.now given) in
+        result ≡ (numbered_part parts (suc place)).1 }
 {
     if place == given.commas {
         return given.len;

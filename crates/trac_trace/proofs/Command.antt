@@ -14,9 +14,9 @@ use Rattle.clap.specs.declared.builder.value_parser.ValueParser.TheVariants as p
 use Rattle.clap.specs.declared.parser.matches.ArgMatches.{ArgMatches}
 use Rattle.clap.proofs.OnLiterals.{clap_on_literals}
 use Rattle.clap.proofs.WalkLemmas.{one_text-rows}
-use Rattle.trac_words.specs.CommandLine.{cells_option, gives, has_flag, number, number_of, number_option, numbers_command, steps_option}
-use Rattle.trac_words.proofs.Commands.{HasDefaultAt, default_text, same_number}
-use Rattle.trac_words.proofs.PlaceReads.{IsRead, flag_read, is_own_name, is_plain_app, option_text, signed_read, unsigned_read}
+use Rattle.trac_command.specs.CommandLine.{cells_option, gives, has_flag, number, number_of, number_option, numbers_command, steps_option}
+use Rattle.trac_command.proofs.Commands.{HasDefaultAt, default_text, same_number}
+use Rattle.trac_command.proofs.PlaceReads.{IsRead, flag_read, is_own_name, is_plain_app, option_text, signed_read, unsigned_read}
 use Rattle.trac_trace.specs.CommandLine.{calls_flag, flag_of, forms_flag, from_option, last_option, to_option, trace_command, views_command, warn_flag, width_option, columns_option}
 
 pub is_free : is_simple_and_free trace_command ≡ true

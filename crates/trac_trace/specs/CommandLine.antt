@@ -4,8 +4,8 @@ use Rattle.std.specs.Prelude.{bytes_eq, nat_lt, if◌then◌else◌}
 use Rattle.clap.specs.Words.{App, Row, Rule, Text, new_rule, with_rule}
 use Rattle.clap.specs.declared.builder.action.ArgAction.TheVariants.{SetTrue}
 use Rattle.clap.specs.declared.builder.value_parser.ValueParser.TheVariants as parser
-use Rattle.trac_words.specs.CommandLine.{gives, has_flag, number_of, number_option}
-use Rattle.trac_words.specs.CommandLine.{numbers_command}
+use Rattle.trac_command.specs.CommandLine.{gives, has_flag, number_of, number_option}
+use Rattle.trac_command.specs.CommandLine.{numbers_command}
 use Rattle.trac_views.specs.declared.views.Views.{Views}
 
 -- the flag `--name`

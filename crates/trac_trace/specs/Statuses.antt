@@ -2,7 +2,7 @@
 use Rattle.std.specs.Prelude.{ℕ, zero, suc, ◌==◌, nat_lt, if◌then◌else◌}
 use Rattle.trac_language.specs.declared.fate.Fate.{Fate}
 use Rattle.trac_language.specs.declared.fate.Fate.TheVariants.{Halted, InputEnded, OutputFailed}
-use Rattle.trac_lines.specs.Lines.{status_of}
+use Rattle.trac_command.specs.Lines.{status_of}
 
 -- the exit status of `trac_trace` after a run with this fate: that of `trac`, but for output that failed,
 -- which here is kept in memory

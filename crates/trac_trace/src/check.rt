@@ -7,10 +7,10 @@ use crate::{NO_MEMORY, NOT_WRITTEN, say, warned_status};
 use std::io::{ErrorKind, Write};
 use std::{fs, io};
 use trac_checker::watched;
+use trac_command::Settings;
 use trac_core::{RetryingWriter, SliceSource};
 use trac_space::make_block;
 use trac_tracer::{TraceError, write};
-use trac_words::Settings;
 
 // The status where a file can't be read, as for a run whose input failed.
 const NOT_READ: u8 = 4;

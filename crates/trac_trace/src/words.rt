@@ -1,15 +1,15 @@
 //! The program's words.
 ghost use Rattle.std.specs.Prelude.{◌≡◌, ◌≤◌, ◌+◌, length, take, drop, IfOk, IfErr, map, string_bytes, true, false};
 ghost use Rattle.clap.specs.Words.{FailsBy, app_of, fault_of, kind_of, matches_of, rule_of, takes};
-ghost use Rattle.trac_words.specs.CommandLine.{AreValuesOf, HasDefaults};
+ghost use Rattle.trac_command.specs.CommandLine.{AreValuesOf, HasDefaults};
 ghost use Rattle.trac_trace.specs.CommandLine.{AreViewsOf, HasDefaultViews, flag_of, has_check, is_version};
 ghost use Rattle.trac_trace.specs.CommandLine.{options_len, place_of_check, trace_command, views_command};
 
 use clap::error::ErrorKind;
 use clap::{Arg, ArgAction, Command, Error, value_parser};
 use std::alloc::{AllocError, Global};
+use trac_command::{MOST_STEPS, Settings, number, numbers_command};
 use trac_views::{MOST_LAST, MOST_WIDTH, Views};
-use trac_words::{MOST_STEPS, Settings, number, numbers_command};
 
 /// The options before the files: the settings of a run, and what is shown of it.
 #[derive(Clone, Copy)]

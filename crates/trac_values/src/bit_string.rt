@@ -9,7 +9,7 @@ ghost use Rattle.trac_space.specs.Texts.{text_of_cells};
 ghost use Rattle.trac_values.specs.Digits.{bits_of_cells, padded_text, signed, IsOctal};
 ghost use Rattle.trac_values.specs.Cells.{IsText, bits_in, number_in};
 
-use crate::number::{Count, rotation_of, shift_of};
+use crate::counts::{Count, rotation_of, shift_of};
 use trac_space::{Cell, character_of};
 
 /// Whether a character is a digit from 0 to 7.
@@ -32,7 +32,7 @@ fn octal_digits_start(cells: &[Cell]) -> usize
 
 /// The octal digits of the bit string at the end of a text: its longest suffix of the digits 0 to 7, which
 /// may have no cell.
-pub fn octal_digits(cells: &[Cell]) -> &[Cell]
+fn octal_digits(cells: &[Cell]) -> &[Cell]
     ensures digits { text_of_cells result.now ≡ octal_digits (text_of_cells cells.now) }
     ensures octal { IsOctal result.now }
     ensures short { length result.now ≤ length cells.now }

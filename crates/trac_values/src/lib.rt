@@ -6,6 +6,9 @@
 #![tactic(auto)]
 
 mod bit_string;
+mod comparing;
+mod counts;
+mod digits;
 mod number;
 mod text;
 
@@ -13,9 +16,8 @@ pub use bit_string::{
     bool_complement, bool_intersection, bool_rotation, bool_shift, bool_union, complement_digit,
     intersection_digit, octal_start, rotated_digit, shifted_digit, union_digit,
 };
-pub use number::{
-    Count, ShortResult, TailNumber, count_of, greater, result_of, rotation_of, shift_of,
-    short_result, tail_number,
-};
-pub use text::{ends_with, equal};
+pub use comparing::greater;
+pub use counts::{Count, count_of, rotation_of, shift_of};
+pub use number::{ShortResult, TailNumber, result_of, short_result, tail_number};
+pub use text::equal;
 pub use trac_language::Arith;

@@ -1,32 +1,21 @@
-//! Numbers at the end of texts.
-ghost use Rattle.std.specs.Prelude.{◌≡◌, ◌↔◌, ◌+◌, ◌*◌, ◌%◌, ◌<◌, ◌≤◌, ◌^◌};
-ghost use Rattle.std.specs.Prelude.{All, false, ℕ};
-ghost use Rattle.std.specs.Prelude.{ℤ, min, IfSome, IsSome, IsTrue, length, int_lt, neg_ℤ, pos};
-ghost use Rattle.std.specs.Prelude.{unsigned_abs, ◌<ℤ◌};
-ghost use Rattle.std.specs.Int.{int_rem_euclid};
-ghost use Rattle.std.specs.Ordering.{nat_cmp};
-ghost use Rattle.std.specs.Prelude.{FitsSigned, Some};
+//! Numbers at the end of texts, and arithmetic on them.
+ghost use Rattle.std.specs.Prelude.{◌≡◌, ◌+◌, ◌<◌, ◌≤◌, ◌^◌, All, false, ℕ, ℤ, IfSome, IsSome};
+ghost use Rattle.std.specs.Prelude.{IsTrue, length, neg_ℤ, pos, unsigned_abs, FitsSigned, Some};
 ghost use Rattle.std.specs.Int.{w64};
 ghost use Rattle.trac_language.specs.Number.{arith, before_digits, digits, ends_with, exactly};
 ghost use Rattle.trac_language.specs.Number.{if_in_range, in_range, prefix};
 ghost use Rattle.std.specs.Str.Parse.{digits_value};
 ghost use Rattle.trac_space.specs.Texts.{text_of_cells, IsByte};
-ghost use Rattle.trac_values.specs.Digits.{IsDecimal, decimal_value, signed, value_upto};
+ghost use Rattle.trac_values.specs.Digits.{signed};
 ghost use Rattle.trac_values.specs.Cells.{IsText, number_in};
 
+use crate::digits::{long_value, number_in_few, number_in_two_parts, short_number, split_digits};
 use crate::text::ends_with;
-use std::cmp::Ordering;
 use trac_language::Arith;
-use trac_space::{Cell, byte_in, character_of};
-
-/// Each number of this many decimal digits fits in 64 bits.
-const DIGITS_IN_64_BITS: usize = 19;
+use trac_space::{Cell, byte_in};
 
 /// The sum and the difference of two numbers of at most this many decimal digits fit in 64 bits.
-const DIGITS_THAT_ADD: usize = 18;
-
-// 10 ^ 19.
-const POWER: u128 = 10_000_000_000_000_000_000;
+pub(crate) const DIGITS_THAT_ADD: usize = 18;
 
 /// The number at the end of a text, as `tail_number` finds it, and where it begins.
 #[derive(Clone, Copy)]
@@ -37,113 +26,9 @@ pub struct TailNumber {
     pub value: Option<i128>,
 }
 
-/// Where the longest suffix of decimal digits begins.
-fn digits_start(cells: &[Cell]) -> usize
-    ensures { result ≡ length (before_digits (text_of_cells cells.now)) }
-{
-    let mut start = cells.len();
-    while start > 0 && character_of(&cells[start - 1]).is_ascii_digit() {
-        start -= 1;
-    }
-    start
-}
-
-/// The number whose digits are those of `value` and then those of a part: the part's own number, and ten
-/// to the power of how many digits it has. None if it, or `value`, is outside the range of arithmetic.
-fn with_part(value: Option<i128>, part: (u64, u64)) -> Option<i128>
-    requires { part.0 < part.1 }
-    ensures { (n : ℕ) → value ≡ if_in_range (Some (pos n)) →
-        result ≡ if_in_range (Some (pos (n * part.1 + part.0))) }
-{
-    value?
-        .checked_mul(i128::from(part.1))?
-        .checked_add(i128::from(part.0))
-}
-
-/// The text before its longest suffix of decimal digits, and these digits.
-fn split_digits(cells: &[Cell]) -> (&[Cell], &[Cell])
-    ensures front { text_of_cells result.0.now ≡ before_digits (text_of_cells cells.now) }
-    ensures digits { text_of_cells result.1.now ≡ digits (text_of_cells cells.now) }
-    ensures passes { IsDecimal result.1.now }
-    ensures short { length result.1.now ≤ length cells.now }
-{
-    cells.split_at(digits_start(cells))
-}
-
-/// Where the longest suffix of decimal digits begins, and its number. None if it may have more than 19
-/// digits, which can be too many for 64 bits.
-#[inline(always)]
-fn short_number(cells: &[Cell]) -> Option<(usize, u64)>
-    requires bytes { All IsByte cells.now }
-    ensures start { IfSome result (λ r. r.0 ≡ length (before_digits (text_of_cells cells.now))) }
-    ensures value { IfSome result (λ r. r.1 ≡ digits_value 10 (digits (text_of_cells cells.now))) }
-    ensures below { IfSome result (λ r. r.1 < 10 ^ 19) }
-    ensures few { length (digits (text_of_cells cells.now)) < 19 → IsSome result }
-{
-    let least = cells.len().saturating_sub(19);
-    let mut start = cells.len();
-    let mut value: u64 = 0;
-    let mut power: u64 = 1;
-    while start > least {
-        let character = byte_in(&cells[start - 1]);
-        if !character.is_ascii_digit() {
-            return Some((start, value));
-        }
-        value += u64::from(character - b'0') * power;
-        power *= 10;
-        start -= 1;
-    }
-    if least == 0 { Some((0, value)) } else { None }
-}
-
-/// Where the longest suffix of decimal digits begins, and its number, in a text of at most 18 characters.
-/// Takes less where they all are digits.
-#[inline(always)]
-fn number_in_few(cells: &[Cell]) -> (usize, u64)
-    requires bytes { All IsByte cells.now }
-    requires few { length cells.now ≤ 18 }
-    ensures start { result.0 ≡ length (before_digits (text_of_cells cells.now)) }
-    ensures value { result.1 ≡ digits_value 10 (digits (text_of_cells cells.now)) }
-    ensures below { result.1 < 10 ^ 18 }
-{
-    let mut value = 0;
-    for i in 0..cells.len() {
-        let character = byte_in(&cells[i]);
-        if !character.is_ascii_digit() {
-            return number_among_others(cells);
-        }
-        value = value * 10 + u64::from(character - b'0');
-    }
-    (0, value)
-}
-
-/// Where the longest suffix of decimal digits begins, and its number, in a text of at most 18 characters.
-/// Each character that is no digit begins the number anew.
-#[inline(always)]
-fn number_among_others(cells: &[Cell]) -> (usize, u64)
-    requires bytes { All IsByte cells.now }
-    requires few { length cells.now ≤ 18 }
-    ensures start { result.0 ≡ length (before_digits (text_of_cells cells.now)) }
-    ensures value { result.1 ≡ digits_value 10 (digits (text_of_cells cells.now)) }
-    ensures below { result.1 < 10 ^ 18 }
-{
-    let mut start = 0;
-    let mut value = 0;
-    for i in 0..cells.len() {
-        let character = byte_in(&cells[i]);
-        if character.is_ascii_digit() {
-            value = value * 10 + u64::from(character - b'0');
-        } else {
-            value = 0;
-            start = i + 1;
-        }
-    }
-    (start, value)
-}
-
 /// The length of the prefix of a text of at most 18 characters, in cells, and the number at its end.
 #[inline(always)]
-fn tail_of_few(cells: &[Cell]) -> (usize, i64)
+pub(crate) fn tail_of_few(cells: &[Cell]) -> (usize, i64)
     requires text { IsText cells.now }
     requires few { length cells.now ≤ 18 }
     ensures start { result.0 ≡ length (prefix (text_of_cells cells.now)) }
@@ -154,39 +39,6 @@ fn tail_of_few(cells: &[Cell]) -> (usize, i64)
     let (start, negative) = sign_before(cells, start);
     let size = size as i64;
     (start, if negative { -size } else { size })
-}
-
-/// The number of at most 19 digits, and ten to the power of how many they are.
-fn part_value(digits: &[Cell]) -> (u64, u64)
-    requires decimal { IsDecimal digits.now }
-    requires few { length digits.now ≤ 19 }
-    ensures value { result.0 ≡ decimal_value digits.now }
-    ensures power { result.1 ≡ 10 ^ length digits.now }
-    ensures below { result.0 < result.1 }
-{
-    let mut value = 0;
-    let mut power = 1;
-    for i in 0..digits.len() {
-        value = value * 10 + u64::from(byte_in(&digits[i]) - b'0');
-        power *= 10;
-    }
-    (value, power)
-}
-
-/// The number of digits, however many they are, read in parts that fit in 64 bits. None if it is outside
-/// the range of arithmetic.
-fn long_value(digits: &[Cell]) -> Option<i128>
-    requires { IsDecimal digits.now }
-    ensures { result ≡ if_in_range (Some (pos (decimal_value digits.now))) }
-{
-    let mut value = Some(0);
-    let mut done = 0;
-    while done < digits.len() {
-        let end = done + (digits.len() - done).min(DIGITS_IN_64_BITS);
-        value = with_part(value, part_value(&digits[done..end]));
-        done = end;
-    }
-    value
 }
 
 /// The number with the other sign.
@@ -208,7 +60,7 @@ fn is_last(cells: &[Cell], character: u8) -> bool
 
 /// Whether the twentieth character from the end is a digit, as in a number of 20 digits or more.
 #[inline(always)]
-fn may_be_long(cells: &[Cell]) -> bool
+pub(crate) fn may_be_long(cells: &[Cell]) -> bool
     requires { All IsByte cells.now }
     ensures { length cells.now < 20 → result ≡ false }
 {
@@ -218,7 +70,7 @@ fn may_be_long(cells: &[Cell]) -> bool
 /// The length of the prefix of a text, in cells, and the number at its end. None if the number may have
 /// more than 19 digits.
 #[inline(always)]
-fn short_tail(cells: &[Cell]) -> Option<(usize, i128)>
+pub(crate) fn short_tail(cells: &[Cell]) -> Option<(usize, i128)>
     requires { IsText cells.now }
     ensures start { IfSome result (λ r. r.0 ≡ length (prefix (text_of_cells cells.now))) }
     ensures value { IfSome result (λ r. r.1 ≡ number_in cells.now) }
@@ -264,24 +116,6 @@ fn with_sign(cells: &[Cell], start: usize, size: i128) -> (usize, i128)
 {
     let (start, negative) = sign_before(cells, start);
     (start, if negative { -size } else { size })
-}
-
-/// Where the longest suffix of decimal digits begins, and its number, read as two numbers of at most 19
-/// digits. None if it may have more than 38 digits, or if the text has fewer than 19 characters.
-#[inline(always)]
-fn number_in_two_parts(cells: &[Cell]) -> Option<(usize, u128)>
-    requires { All IsByte cells.now }
-    ensures start { IfSome result (λ r. r.0 ≡ length (before_digits (text_of_cells cells.now))) }
-    ensures value { IfSome result (λ r. r.1 ≡ digits_value 10 (digits (text_of_cells cells.now))) }
-    ensures below { IfSome result (λ r. r.1 < 10 ^ 38) }
-{
-    let (front, back) = cells.split_last_chunk::<DIGITS_IN_64_BITS>()?;
-    let (start, low) = short_number(back)?;
-    if start > 0 {
-        return Some((front.len() + start, u128::from(low)));
-    }
-    let (start, high) = short_number(front)?;
-    Some((start, u128::from(high) * POWER + u128::from(low)))
 }
 
 /// The number at the end of a text, and where it begins. Takes less for a number of 20 to 38 digits.
@@ -417,172 +251,4 @@ pub fn short_result(operation: Arith, a: &[Cell], b: &[Cell]) -> Option<ShortRes
         start: start as u32,
         number,
     })
-}
-
-/// The digit at a place of a number that is filled with zeros at the left up to `long` digits.
-fn digit_at(digits: &[Cell], long: usize, place: usize) -> u8
-    requires digits { IsDecimal digits.now }
-    requires long { (length digits.now ≤ long) × (long < 2 ^ 62) }
-    requires place { place < long }
-    ensures below { result < 10 }
-    ensures value { let text = text_of_cells digits.now in
-        value_upto text long (place + 1) ≡ value_upto text long place * 10 + result }
-{
-    if place + digits.len() < long {
-        0
-    } else {
-        character_of(&digits[place + digits.len() - long]) - b'0'
-    }
-}
-
-/// Compares the numbers of digits, however many they are.
-fn compare_digits(a: &[Cell], b: &[Cell]) -> Ordering
-    requires left { IsDecimal a.now }
-    requires right { IsDecimal b.now }
-    requires short { (length a.now ≤ 16777216) × (length b.now ≤ 16777216) }
-    ensures { result ≡ nat_cmp (decimal_value a.now) (decimal_value b.now) }
-{
-    let long = a.len().max(b.len());
-    let mut order = Ordering::Equal;
-    for place in 0..long {
-        order = order.then(digit_at(a, long, place).cmp(&digit_at(b, long, place)));
-    }
-    order
-}
-
-/// Whether the number at the end of text `a` is greater than the one at the end of text `b`: the test of
-/// `gr` (Mooers 1966). That the numbers may have any length is this processor's own choice.
-#[inline(always)]
-pub fn greater(a: &[Cell], b: &[Cell]) -> bool
-    requires left { IsText a.now }
-    requires right { IsText b.now }
-    ensures { IsTrue result ↔ (number_in b.now <ℤ number_in a.now) }
-{
-    if a.len() > DIGITS_THAT_ADD || b.len() > DIGITS_THAT_ADD {
-        return longer_greater(a, b);
-    }
-    tail_of_few(a).1 > tail_of_few(b).1
-}
-
-/// Whether the number at the end of text `a` is greater than the one at the end of text `b`. Takes less
-/// for numbers of at most 19 digits.
-#[cold]
-#[inline(never)]
-fn longer_greater(a: &[Cell], b: &[Cell]) -> bool
-    requires left { IsText a.now }
-    requires right { IsText b.now }
-    ensures { IsTrue result ↔ (number_in b.now <ℤ number_in a.now) }
-{
-    if may_be_long(a) || may_be_long(b) {
-        return long_greater(a, b);
-    }
-    if let Some((_, m)) = short_tail(a) {
-        if let Some((_, n)) = short_tail(b) {
-            return m > n;
-        }
-    }
-    long_greater(a, b)
-}
-
-/// Whether the number at the end of text `a` is greater than the one at the end of text `b`, found by
-/// comparing their digits.
-#[inline(never)]
-fn long_greater(a: &[Cell], b: &[Cell]) -> bool
-    requires left { IsText a.now }
-    requires right { IsText b.now }
-    ensures { IsTrue result ↔ (number_in b.now <ℤ number_in a.now) }
-{
-    let (a_front, a_digits) = split_digits(a);
-    let (b_front, b_digits) = split_digits(b);
-    let a_negative = ends_with(a_front, b'-');
-    let b_negative = ends_with(b_front, b'-');
-    if a_negative && b_negative {
-        compare_digits(a_digits, b_digits).is_lt()
-    } else if a_negative {
-        false
-    } else if b_negative {
-        compare_digits(a_digits, &[]).is_gt() || compare_digits(b_digits, &[]).is_gt()
-    } else {
-        compare_digits(a_digits, b_digits).is_gt()
-    }
-}
-
-/// A number up to a limit: whether it is negative, and its size or the limit, whichever is less.
-#[derive(Clone, Copy)]
-pub struct Count {
-    pub negative: bool,
-    pub size: u32,
-}
-
-/// The number of digits, or the limit if that is less.
-fn value_up_to(digits: &[Cell], limit: u32) -> u32
-    requires digits { IsDecimal digits.now }
-    requires limit { limit ≤ 50331648 }
-    ensures { result ≡ min (decimal_value digits.now) limit }
-{
-    let mut value = 0;
-    for cell in digits {
-        value = (value * 10 + u32::from(character_of(cell) - b'0')).min(limit);
-    }
-    value
-}
-
-/// The number at the end of a text, of any length, up to a limit.
-fn count_up_to(cells: &[Cell], limit: u32) -> Count
-    requires limit { (0 < limit) × (limit ≤ 50331648) }
-    ensures negative { result.negative ≡ int_lt (number_in cells.now) (pos 0) }
-    ensures size { result.size ≡ min (unsigned_abs (number_in cells.now)) limit }
-{
-    let (front, digits) = split_digits(cells);
-    let size = value_up_to(digits, limit);
-    Count {
-        negative: size > 0 && ends_with(front, b'-'),
-        size,
-    }
-}
-
-/// The number at the end of a text, for `cn` (Mooers 1966): how many characters, up to 16,777,216, as many
-/// as a block can hold. The limit is this processor's own choice.
-pub fn count_of(cells: &[Cell]) -> Count
-    ensures negative { result.negative ≡ int_lt (number_in cells.now) (pos 0) }
-    ensures size { result.size ≡ min (unsigned_abs (number_in cells.now)) 16777216 }
-{
-    count_up_to(cells, 16_777_216)
-}
-
-/// The number at the end of a text, for `bs` (Mooers 1966): by how many bits to shift, up to 50,331,648, as
-/// many as the digits in a block can have. The limit is this processor's own choice.
-pub fn shift_of(cells: &[Cell]) -> Count
-    ensures negative { result.negative ≡ int_lt (number_in cells.now) (pos 0) }
-    ensures size { result.size ≡ min (unsigned_abs (number_in cells.now)) 50331648 }
-{
-    count_up_to(cells, 50_331_648)
-}
-
-/// The remainder of the number of digits by a divisor.
-fn remainder_of(digits: &[Cell], divisor: u32) -> u32
-    requires digits { IsDecimal digits.now }
-    requires divisor { (0 < divisor) × (divisor ≤ 50331648) }
-    ensures { result ≡ decimal_value digits.now % divisor }
-{
-    let mut rest = 0;
-    for cell in digits {
-        rest = (rest * 10 + u32::from(character_of(cell) - b'0')) % divisor;
-    }
-    rest
-}
-
-/// By how many bits, fewer than `bits`, the number at the end of a text rotates a string of `bits` bits to
-/// the left, for `br` (Mooers 1966).
-pub fn rotation_of(cells: &[Cell], bits: u32) -> u32
-    requires { (0 < bits) × (bits ≤ 50331648) }
-    ensures { int_rem_euclid (number_in cells.now) (pos bits) ≡ pos result }
-{
-    let (front, digits) = split_digits(cells);
-    let rest = remainder_of(digits, bits);
-    if rest > 0 && ends_with(front, b'-') {
-        bits - rest
-    } else {
-        rest
-    }
 }

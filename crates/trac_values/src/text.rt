@@ -7,7 +7,7 @@ ghost use Rattle.trac_values.specs.Cells.{IsText};
 use trac_space::{Cell, byte_in, character_of};
 
 /// Whether the last of the cells is this character. False if there is no cell.
-pub fn ends_with(cells: &[Cell], character: u8) -> bool
+pub(crate) fn ends_with(cells: &[Cell], character: u8) -> bool
     ensures { result ≡ ends_with character (text_of_cells cells.now) }
 {
     !cells.is_empty() && character_of(&cells[cells.len() - 1]) == character

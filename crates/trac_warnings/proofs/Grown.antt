@@ -1,5 +1,5 @@
 -- The first items of a list, and one more.
-use Rattle.std.proofs.Common.{◌≡◌, ◌<◌, ◌+◌, ◌∙◌, ℕ, zero, suc, ap, List, [], ◌∷◌, ◌++◌, length, take, Some, None, arith}
+use Rattle.std.proofs.Common.{◌≡◌, ◌<◌, ◌+◌, ◌∙◌, ℕ, zero, suc, ap, List, [], ◌∷◌, ◌++◌, length, take, drop, Some, None, arith}
 use Rattle.std.specs.Prelude.{slice_get, option_to_list}
 
 module _ {A : Type 0} where
@@ -15,3 +15,11 @@ module _ {A : Type 0} where
   is_there [] k is less = omega arith
   is_there (y ∷ xs) zero is less = absurd cc
   is_there (y ∷ xs) (suc k) is less = is_there xs k is (omega arith)
+
+  at : (xs : List A) (k : ℕ) (x : A) → slice_get xs k ≡ Some x → drop k xs ≡ x ∷ drop (suc k) xs
+  at [] k x is = absurd cc
+  at (y ∷ xs) zero x is = ap (λ t. t ++ xs) (ap option_to_list is)
+  at (y ∷ xs) (suc k) x is = at xs k x is
+
+  pub head_is : (xs : List A) (k : ℕ) (x : A) → slice_get xs k ≡ Some x → drop k xs ≡ x ∷ drop (k + 1) xs
+  head_is xs k x is = let e : suc k ≡ k + 1 = omega arith in at xs k x is ∙ ap (λ n. x ∷ drop n xs) e

@@ -3,4 +3,5 @@ pub mod Keeping
 pub mod NextNames
 pub mod Noted
 pub mod Said
+pub mod Searched
 pub mod Looked

@@ -5,6 +5,7 @@ use Rattle.std.proofs.lemmas.List.{length-append, reverse-append}
 use Rattle.std.specs.Prelude.{false, nat_lt, reverse, ◌&&◌, if◌then◌else◌}
 use Rattle.trac_language.specs.declared.item.Item.{Item}
 use Rattle.trac_space.specs.declared.cell.Cell.{Cell}
+use Rattle.trac_warnings.specs.Misspelled.{misspelled_at, misspelled_from}
 use Rattle.trac_warnings.specs.Performed.{gap_behind, gaps_behind, next_text, of_text}
 use Rattle.trac_warnings.specs.Script.{spelled, spelled_at, told_behind}
 use Rattle.trac_warnings.specs.Spelling.{spelling_of}
@@ -45,6 +46,17 @@ next_spelled old new whole told sign later place input less added is all =
     (subst (λ t. new ≡ old ++ spelled_at (spelling_of t) told sign place t) part added)
     (subst (λ t. later ≡ told_behind (spelling_of t) told (get_or t 0 0)) part is)
     (subst (λ t. old ++ spelled told sign place t ≡ whole) head all)
+
+-- the calls at a place of the input, and behind it, whose names are nearly those of functions
+pub next_misspelled : (old new whole : List Said) (place : ℕ) (input : List ℕ) → place < length input
+    → new ≡ old ++ misspelled_at place (take (length input - place) (drop place input))
+    → old ++ misspelled_from place (drop place input) ≡ whole → new ++ misspelled_from (place + 1) (drop (place + 1) input) ≡ whole
+next_misspelled old new whole place input less added all =
+    let head = head_of input place 0 less in
+    let part = taken_whole input place ∙ head in
+    added_first old new (misspelled_at place (get_or input place 0 ∷ drop (place + 1) input)) (misspelled_from (place + 1) (drop (place + 1) input)) whole
+    (subst (λ t. new ≡ old ++ misspelled_at place t) part added)
+    (subst (λ t. old ++ misspelled_from place t ≡ whole) head all)
 
 -- the texts behind a cell of the arguments, and behind the next
 pub next_gaps : (old new whole : List Said) (k next i : ℕ) (d : Cell) (cells : List Cell) (items : List Item) (ending : Ending) → i < length cells

@@ -1,11 +1,16 @@
 pub mod Suspicions
 pub mod Findings
+pub mod Blanks
 pub mod Gaps
+pub mod Letters
+pub mod Operands
 pub mod Origins
 pub mod Performed
+pub mod Printed
 pub mod Script
 pub mod Spelling
 pub mod Strings
 pub mod Watched
 pub mod Looked
+pub mod Misspelled
 pub mod Told

@@ -1,30 +1,43 @@
 -- What is suspicious in a call that is about to be performed.
 use Rattle.std.specs.Prelude.{◌≡◌, ℕ, ◌+◌, ◌-◌, ◌^◌, ◌==◌, ◌&&◌, ◌||◌, Bool, true, false, not, min}
-use Rattle.std.specs.Prelude.{nat_le, nat_lt}
-use Rattle.std.specs.Prelude.{List, [], ◌∷◌, ◌++◌, length, map, slice_get, Option, None, Some}
-use Rattle.std.specs.Prelude.{option_map, if◌then◌else◌}
+use Rattle.std.specs.Prelude.{codes, decimal, nat_le, nat_lt}
+use Rattle.std.specs.Prelude.{List, [], ◌∷◌, ◌++◌, length, map, slice_get, take, Option, None, Some}
+use Rattle.std.specs.Prelude.{option_map, is_none, is_some, if◌then◌else◌}
 use Rattle.std.specs.Bool.{nat_eq}
+use Rattle.std.specs.Char.{is_ascii_alphabetic}
+use Rattle.std.specs.List.{list_any}
 use Rattle.std.specs.Option.{option_eq}
 use Rattle.trac_language.specs.Form.{Form}
+use Rattle.trac_language.specs.Text.{Text}
 use Rattle.trac_language.specs.Function.{function_named}
 use Rattle.trac_language.specs.declared.function.Function.{Function}
 use Rattle.trac_language.specs.declared.function.Function.TheVariants.{SegmentString, CallForm, InitialPart}
+use Rattle.trac_language.specs.declared.function.Function.TheVariants.{Equal, PrintString, ChangeMeta}
 use Rattle.trac_language.specs.Table.{traits}
 use Rattle.trac_language.specs.declared.item.Item.{Item}
 use Rattle.trac_space.specs.declared.cell.Cell.{Cell}
 use Rattle.trac_space.specs.Cells.{is_comma}
 use Rattle.trac_space.specs.Texts.{text_of_cells}
 use Rattle.trac_events.specs.Calls.{argument_of}
-use Rattle.trac_events.specs.Changes.{form_of, takes_part}
-use Rattle.trac_warnings.specs.Gaps.{stands_in_name}
-use Rattle.trac_warnings.specs.Suspicions.{is_written, suspicion_of_name}
+use Rattle.trac_events.specs.Changes.{form_of, is_same, takes_part}
+use Rattle.trac_warnings.specs.Blanks.{trimmed}
+use Rattle.trac_warnings.specs.Gaps.{highest_gap, is_absent, stands_in, stands_in_name, stands_in_words}
+use Rattle.trac_warnings.specs.Letters.{differ_by_letters, stands_in_letters}
+use Rattle.trac_warnings.specs.Operands.{operand_among, suspicion_of_operand, takes_numbers}
+use Rattle.trac_warnings.specs.Printed.{begins_with_line_end, behind_opening, has_two_at_end, is_call}
+use Rattle.trac_warnings.specs.Suspicions.{is_called_alone, is_written, suspicion_of_name}
 use Rattle.trac_warnings.specs.Watched.{Said, said}
 use Rattle.trac_warnings.specs.declared.origin.Origin.{Origin}
 use Rattle.trac_warnings.specs.declared.performed.Ending.{Ending}
 use Rattle.trac_warnings.specs.declared.warning.Suspicion.{Suspicion}
 use Rattle.trac_warnings.specs.declared.warning.Suspicion.TheVariants.{NoFunction, FormAsFunction, NoForm}
-use Rattle.trac_warnings.specs.declared.warning.Suspicion.TheVariants.{Ignored, NothingLeft, HaltInside}
-use Rattle.trac_warnings.specs.declared.warning.Suspicion.TheVariants.{ReadsAlways, GapInName}
+use Rattle.trac_warnings.specs.declared.warning.Suspicion.TheVariants.{BlankInName, BlankInSide, LetterInSide}
+use Rattle.trac_warnings.specs.declared.warning.Suspicion.TheVariants.{AllTaken}
+use Rattle.trac_warnings.specs.declared.warning.Suspicion.TheVariants.{Ignored, NothingLeft, NothingFound}
+use Rattle.trac_warnings.specs.declared.warning.Suspicion.TheVariants.{HaltInside}
+use Rattle.trac_warnings.specs.declared.warning.Suspicion.TheVariants.{ReadsAlways, GapInName, NotInForm, NoGap}
+use Rattle.trac_warnings.specs.declared.warning.Suspicion.TheVariants.{InOtherLetters, GapInWord, FewArguments}
+use Rattle.trac_warnings.specs.declared.warning.Suspicion.TheVariants.{CallPrinted, LineEndAsMeta}
 use Rattle.trac_warnings.specs.declared.warning.Warning.{Warning}
 
 -- the warning of a text at an origin
@@ -122,6 +135,80 @@ nested function ending =
     then name_warnings (inside function ending.around.now) ending.begin (argument_of ending.around.now 0)
     else []
 
+-- the warning of the first of two arguments in which something is suspicious, of the call at an origin
+abbrev pub first_warned : (first second : Option Suspicion) → Origin → (one other : List Cell) → List Said
+first_warned None second origin one other = name_warnings second origin other
+first_warned (Some suspicion) second origin one other = where_so true suspicion origin one
+
+-- the warning of the first argument of a call that is taken for a number, and in which something is suspicious
+abbrev pub operand_warnings : Function → List Form → Ending → List Said
+operand_warnings function forms ending =
+    let one = argument_of ending.arguments.now 1 in
+    let other = argument_of ending.arguments.now 2 in
+    if takes_numbers function
+    then first_warned (operand_among forms one) (operand_among forms other) ending.begin one other
+    else []
+
+-- whether something is suspicious in an argument of arithmetic
+abbrev pub has_odd_operand : List Cell → Bool
+has_odd_operand arguments =
+    is_some (suspicion_of_operand (argument_of arguments 1))
+    || is_some (suspicion_of_operand (argument_of arguments 2))
+
+-- whether a function compares two texts
+abbrev pub compares_texts : Function → Bool
+compares_texts Equal = true
+compares_texts _ = false
+
+-- whether two texts differ, and are the same without the blanks and the layout around them, which isn't null
+abbrev pub differ_by_blanks : (one other : List Cell) → Bool
+differ_by_blanks one other =
+    not (is_same (text_of_cells one) (text_of_cells other))
+    && (is_given (trimmed one) && is_same (text_of_cells (trimmed one)) (text_of_cells (trimmed other)))
+
+-- what is suspicious in two texts that are compared: that they differ only by blanks and layout around them, or only
+-- in capitals and small letters
+abbrev pub suspicion_of_sides : (one other : List Cell) → Option Suspicion
+suspicion_of_sides one other =
+    if differ_by_blanks one other then Some BlankInSide
+    else (if differ_by_letters (text_of_cells one) (text_of_cells other) then Some LetterInSide else None)
+
+-- the warning of a call that compares two texts in which something is suspicious
+abbrev pub side_warnings : Function → Ending → List Said
+side_warnings function ending =
+    let one = argument_of ending.arguments.now 1 in
+    let other = argument_of ending.arguments.now 2 in
+    if compares_texts function then name_warnings (suspicion_of_sides one other) ending.begin one else []
+
+-- whether a function prints a text
+abbrev pub prints : Function → Bool
+prints PrintString = true
+prints _ = false
+
+-- the warning of a call that prints nothing but a call, apart from blanks and layout, which it names
+abbrev pub print_warnings : Function → Ending → List Said
+print_warnings function ending =
+    let text = text_of_cells (trimmed (argument_of ending.arguments.now 1)) in
+    if prints function && is_call text
+    then of_text CallPrinted ending.begin (take 2 (behind_opening text)) ∷ [] else []
+
+-- whether a function changes the meta character
+abbrev pub changes_meta : Function → Bool
+changes_meta ChangeMeta = true
+changes_meta _ = false
+
+-- the warning of a call that makes CR or LF the meta character, in an input that has a line that ends with both
+abbrev pub meta_change_warnings : Function → Ending → List Said
+meta_change_warnings function ending =
+    let new = argument_of ending.arguments.now 1 in
+    where_so (changes_meta function && (begins_with_line_end (text_of_cells new)
+    && has_two_at_end false ending.input.now)) LineEndAsMeta ending.begin new
+
+-- the warnings of the texts that a call compares, or that it prints, or that has the new meta character
+abbrev pub given_warnings : Function → Ending → List Said
+given_warnings function ending =
+    side_warnings function ending ++ (print_warnings function ending ++ meta_change_warnings function ending)
+
 -- whether the argument at a place is given
 abbrev pub is_given_at : Option ℕ → List Cell → Bool
 is_given_at None arguments = false
@@ -145,22 +232,46 @@ abbrev pub calls_form : Option Function → Bool
 calls_form (Some CallForm) = true
 calls_form _ = false
 
--- whether it is suspicious that no form has a name
-abbrev pub is_missing : Function → List Cell → Ending → Bool
-is_missing function name ending =
-    (not (has_default function ending.arguments.now) && not (is_compared ending.around.now))
-    && is_written (text_of_cells name) ending.input.now
+-- whether a call provides for the case that no form has the name: it gives a default value, or is compared
+abbrev pub is_tried : Function → Ending → Bool
+is_tried function ending =
+    has_default function ending.arguments.now || is_compared ending.around.now
+
+-- what is suspicious in a name that no form has, while `forms` are there: that one has it without the blanks and the
+-- layout around it; or that none has it, if the name stands in the script
+abbrev pub suspicion_of_missing : List Form → List Cell → Ending → Option Suspicion
+suspicion_of_missing forms name ending =
+    if is_some (form_of (trimmed name) forms) then Some BlankInName
+    else (if is_written (text_of_cells name) ending.input.now then Some NoForm else None)
+
+-- the warning of a name that no form has
+abbrev pub missing_warnings : Function → List Form → List Cell → Ending → List Said
+missing_warnings function forms name ending =
+    if is_tried function ending then []
+    else name_warnings (suspicion_of_missing forms name ending) ending.begin name
 
 -- the number of the argument behind a cell, if argument k stands before it
 abbrev pub next_text : Cell → ℕ → ℕ
 next_text cell k = if is_comma cell then min (k + 1) (2 ^ 32 - 1) else k
 
--- the warning of argument k of `ss`, if it stands in the name of a call among the items of a body
+-- the warning that names a form, of an argument that was written at a place
+abbrev pub naming : Suspicion → Option Origin → Text → List Said
+naming suspicion None name = []
+naming suspicion (Some place) name = of_text suspicion place name ∷ []
+
+-- what is suspicious in argument k of `ss`, while a body has these items: that it stands in the name of a call; or else
+-- that it stands inside longer words
+abbrev pub suspicion_of_gap : List Cell → ℕ → List Item → Option Suspicion
+suspicion_of_gap text k items =
+    if nat_le k 1 || (length text == 0) then None
+    else (if stands_in_name (text_of_cells text) items then Some GapInName
+    else (if stands_in_words (text_of_cells text) items then Some GapInWord else None))
+
+-- the warning of argument k of `ss`, if something is suspicious in it
 abbrev pub gap_at : ℕ → List Item → Ending → List Said
 gap_at k items ending =
     let text = argument_of ending.arguments.now k in
-    where_so (nat_lt 1 k && (is_given text && stands_in_name (text_of_cells text) items)) GapInName
-    ending.begin text
+    name_warnings (suspicion_of_gap text k items) ending.begin text
 
 -- the warning of the argument of `ss` that begins behind a cell, if argument k stands before the cell
 abbrev pub gap_behind : Cell → ℕ → List Item → Ending → List Said
@@ -172,9 +283,53 @@ gaps_behind k [] items ending = []
 gaps_behind k (cell ∷ cells) items ending =
     gap_behind cell k items ending ++ gaps_behind (next_text cell k) cells items ending
 
--- the warnings of all arguments of `ss` that stand in the name of a call among the items of a body
-abbrev pub gap_warnings : List Item → Ending → List Said
-gap_warnings items ending = gaps_behind 0 ending.arguments.now items ending
+-- whether argument k of `ss` is a text that stands among the items of a body
+abbrev pub holds_text : ℕ → List Item → Ending → Bool
+holds_text k items ending =
+    let text = argument_of ending.arguments.now k in
+    nat_lt 1 k && (is_given text && stands_in (text_of_cells text) items)
+
+-- whether one of the texts of `ss` that begin in the cells stands among the items of a body, if argument k stands
+-- before the cells
+abbrev pub holds_one : ℕ → List Cell → List Item → Ending → Bool
+holds_one k [] items ending = false
+holds_one k (cell ∷ cells) items ending =
+    (is_comma cell && holds_text (next_text cell k) items ending)
+    || holds_one (next_text cell k) cells items ending
+
+-- whether a body is expected to hold one of the texts of a call of `ss`: the first has a letter, and the call stands
+-- in the script itself and not in the value of a form
+abbrev pub is_expected : Ending → Bool
+is_expected ending =
+    is_none ending.begin.form
+    && list_any is_ascii_alphabetic (text_of_cells (argument_of ending.arguments.now 2))
+
+-- where the first text of `ss` was written, if a body is expected to hold one of the texts and holds none
+abbrev pub absent_place : List Item → Ending → Option Origin
+absent_place items ending =
+    if is_expected ending && not (holds_one 0 ending.arguments.now items ending)
+    then written_with (slice_get ending.places.now 1) ending (argument_of ending.arguments.now 2)
+    else None
+
+-- what is suspicious in a text of `ss` that stands nowhere among the items of a body: if it stands there in other
+-- letters, that it does
+abbrev pub suspicion_of_absent : Text → List Item → Suspicion
+suspicion_of_absent text items = if stands_in_letters text items then InOtherLetters else NotInForm
+
+-- the warnings of the texts of `ss` that stand in the name of a call among the items of the body of the form `name`,
+-- and of the first text, if none stands there
+abbrev pub gap_warnings : Text → List Item → Ending → List Said
+gap_warnings name items ending =
+    gaps_behind 0 ending.arguments.now items ending
+    ++ naming (suspicion_of_absent (text_of_cells (argument_of ending.arguments.now 2)) items)
+    (absent_place items ending) name
+
+-- where the first argument of `cl` was written for which there is no gap, if it is given and was written in the same
+-- text as the call; `highest` is the highest ordinal of a gap
+abbrev pub surplus_place : ℕ → Ending → Option Origin
+surplus_place highest ending =
+    written_with (slice_get ending.places.now (highest + 1)) ending
+    (argument_of ending.arguments.now (min (highest + 2) (2 ^ 32 - 1)))
 
 -- whether a function segments a form
 abbrev pub segments : Function → Bool
@@ -190,29 +345,94 @@ searches _ = false
 abbrev pub takes_next : Function → Bool
 takes_next function = takes_part function && not (searches function)
 
+-- whether a call provides for the case that it gets no part of a form: it gives a default value, its value is
+-- compared, or a form gets it as an argument
+abbrev pub provides : Function → Ending → Bool
+provides function ending =
+    has_default function ending.arguments.now
+    || (is_compared ending.around.now || calls_form (function_of ending.around.now))
+
 -- whether something of a form is left to take, or the call provides for the case that nothing is
 abbrev pub is_provided : Function → Form → Ending → Bool
 is_provided function form ending =
-    nat_lt form.pointer (length form.body) || (has_default function ending.arguments.now
-    || (is_compared ending.around.now || calls_form (function_of ending.around.now)))
+    nat_lt form.pointer (length form.body) || provides function ending
+
+-- whether a call searches a form in vain, of which something is left, and doesn't provide for that
+abbrev pub searches_in_vain : Function → Form → Ending → Bool
+searches_in_vain function form ending =
+    searches function && (not (provides function ending)
+    && is_absent (text_of_cells (argument_of ending.arguments.now 2)) form)
+
+-- what is suspicious in a call for a part of a form: that nothing is left of the form, or that nothing is found
+abbrev pub suspicion_of_part : Function → Form → Ending → Option Suspicion
+suspicion_of_part function form ending =
+    if takes_next function && not (is_provided function form ending) then Some NothingLeft
+    else (if searches_in_vain function form ending then Some NothingFound else None)
+
+-- the warning of a call that was written at `begin`, which names a form, if something is suspicious in the call
+abbrev pub part_warnings : Option Suspicion → (begin : Origin) → (name : Text) → List Said
+part_warnings None begin name = []
+part_warnings (Some suspicion) begin name = of_text suspicion begin name ∷ []
+
+-- the warning of a form that is called from its end on, unless the call provides for that
+abbrev pub taken_warnings : Form → Ending → List Said
+taken_warnings form ending =
+    if is_provided CallForm form ending then [] else of_text AllTaken ending.begin form.name ∷ []
+
+-- how many arguments a call of `cl` gives the form, behind the form's name
+abbrev pub arguments_given : Ending → ℕ
+arguments_given ending = commas_of ending.arguments.now - 1
+
+-- whether a call gives the form `name`, which has so many gaps, an argument, but fewer than it has gaps; not so in a
+-- script that also calls the form without any argument, since it leaves gaps null on purpose
+abbrev pub is_short : ℕ → Text → Ending → Bool
+is_short gaps name ending =
+    nat_lt 0 (arguments_given ending)
+    && (nat_lt (arguments_given ending) gaps && not (is_called_alone name ending.input.now))
+
+-- the word behind a number of arguments
+abbrev pub arguments_word : ℕ → Text
+arguments_word given = if given == 1 then codes " argument" else codes " arguments"
+
+-- the name of a form, with how many gaps it has and how many arguments it got
+abbrev pub short_text : Text → (gaps given : ℕ) → Text
+short_text name gaps given =
+    name ++ codes " has " ++ decimal gaps ++ codes " gaps and got " ++ decimal given ++ arguments_word given
+
+-- the warning of the arguments that `cl` gives the form `name`: that there are fewer than its gaps, or of the first for
+-- which it has no gap
+abbrev pub argument_warnings : ℕ → Text → Ending → List Said
+argument_warnings gaps name ending =
+    if is_short gaps name ending
+    then of_text FewArguments ending.begin (short_text name gaps (arguments_given ending)) ∷ []
+    else naming NoGap (surplus_place gaps ending) name
+
+-- the warnings of a form that `cl` calls: of its arguments, or, if the form's pointer was moved, that nothing is left
+-- of it; none, if its body is null
+abbrev pub called_warnings : Form → Ending → List Said
+called_warnings form ending =
+    if length form.body == 0 then []
+    else (if form.pointer == 0
+    then argument_warnings (highest_gap 0 form.body) form.name ending
+    else taken_warnings form ending)
 
 -- the warnings of the form whose body a call takes apart or segments
 abbrev pub of_body : Function → Form → Ending → List Said
 of_body function form ending =
-    if segments function then gap_warnings form.body ending
-    else (if takes_next function && not (is_provided function form ending)
-    then of_text NothingLeft ending.begin form.name ∷ [] else [])
+    if segments function then gap_warnings form.name form.body ending
+    else (if calls_form (Some function) then called_warnings form ending
+    else part_warnings (suspicion_of_part function form ending) ending.begin form.name)
 
 -- the warnings of the form that a call names, or of the name if no form has it
-abbrev pub of_form : Function → Option Form → List Cell → Ending → List Said
-of_form function None name ending = where_so (is_missing function name ending) NoForm ending.begin name
-of_form function (Some form) name ending = of_body function form ending
+abbrev pub of_form : Function → Option Form → List Form → List Cell → Ending → List Said
+of_form function None forms name ending = missing_warnings function forms name ending
+of_form function (Some form) forms name ending = of_body function form ending
 
 -- the warnings of the form that a call names, or of the name if no form has it; none if the function needs no form
 abbrev pub form_warnings : Function → List Form → Ending → List Said
 form_warnings function forms ending =
     let name = argument_of ending.arguments.now 1 in
-    if (traits function).needs_form then of_form function (form_of name forms) name ending else []
+    if (traits function).needs_form then of_form function (form_of name forms) forms name ending else []
 
 -- the warnings of a call of a function
 abbrev pub function_warnings : Option Function → List Form → Ending → List Said
@@ -221,7 +441,9 @@ function_warnings None forms ending =
     name_warnings (suspicion_of_call forms name) ending.begin name
 function_warnings (Some function) forms ending =
     ignored_behind (traits function).uses ending
-    ++ (nested function ending ++ form_warnings function forms ending)
+    ++ (nested function ending
+    ++ (operand_warnings function forms ending
+    ++ (given_warnings function ending ++ form_warnings function forms ending)))
 
 -- the warnings of a call that is about to be performed, while `forms` are there
 abbrev pub call_warnings : List Form → Ending → List Said

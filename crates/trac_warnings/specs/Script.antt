@@ -1,7 +1,7 @@
 -- What is suspicious in how a script is written.
 use Rattle.std.specs.Prelude.{ℕ, ◌+◌, ◌==◌, ◌&&◌, ◌||◌, Bool, true, false, not, nat_le, nat_lt, List, [], ◌∷◌}
-use Rattle.std.specs.Prelude.{◌++◌, length, take, Option, None, Some, if◌then◌else◌}
-use Rattle.std.specs.List.{list_any}
+use Rattle.std.specs.Prelude.{◌++◌, ◌-◌, length, take, Option, None, Some, if◌then◌else◌, is_some}
+use Rattle.std.specs.List.{ends_with, list_any}
 use Rattle.std.specs.Char.{is_ascii_alphanumeric}
 use Rattle.trac_language.specs.Rule.{is_layout}
 use Rattle.trac_language.specs.Text.{Text}
@@ -34,10 +34,22 @@ abbrev pub as_meta : Option (ℕ × ℕ) → Option (ℕ × ℕ)
 as_meta None = None
 as_meta (Some last) = if is_ascii_alphanumeric last.1 || (last.1 == 41) then None else Some last
 
+-- where the typographic apostrophe stands, in UTF-8, that a text ends with, where `last` is the last byte of the text
+-- that is no layout and no blank, and its place
+abbrev pub curly_before : Option (ℕ × ℕ) → Text → Option ℕ
+curly_before None text = None
+curly_before (Some last) text =
+    if ends_with (λ a b. a == b) (take (last.0 + 1) text) (226 ∷ 128 ∷ 153 ∷ []) then Some (last.0 - 2) else None
+
+-- where the typographic apostrophe stands that a text ends with, apart from layout and blanks
+abbrev pub curly_end : Text → Option ℕ
+curly_end text = curly_before (last_seen None 0 text) text
+
 -- the byte that seems to end the strings of a script without any apostrophe, and its place
 abbrev pub other_meta : Text → Option (ℕ × ℕ)
 other_meta input =
-    if list_any (λ c. c == 39) input then None else as_meta (last_seen None 0 input)
+    if list_any (λ c. c == 39) input || is_some (curly_end input) then None
+    else as_meta (last_seen None 0 input)
 
 -- the warning of a byte that seems to end the strings of a script
 abbrev pub meta_warnings : Option (ℕ × ℕ) → List Said

@@ -1,5 +1,5 @@
 -- What is suspicious in a call, and what is said of it.
-use Rattle.std.specs.Prelude.{Bool, false, List, [], ◌∷◌, map, Option, Some, None, codes}
+use Rattle.std.specs.Prelude.{Bool, true, false, List, [], ◌∷◌, map, Option, Some, None, codes}
 use Rattle.std.specs.Prelude.{bytes_eq, if◌then◌else◌, is_some, ℕ, ◌==◌, ◌&&◌, ◌||◌}
 use Rattle.std.specs.List.{list_any}
 use Rattle.std.specs.Char.{to_ascii_lowercase}
@@ -9,11 +9,16 @@ use Rattle.trac_warnings.specs.declared.warning.Suspicion.{Suspicion}
 use Rattle.trac_warnings.specs.declared.warning.Suspicion.TheVariants.{Mark, OtherMeta, LineNumbers}
 use Rattle.trac_warnings.specs.declared.warning.Suspicion.TheVariants.{Colon, Blank, Bracket}
 use Rattle.trac_warnings.specs.declared.warning.Suspicion.TheVariants.{NoNumberSign, NoFunction, FormAsFunction}
-use Rattle.trac_warnings.specs.declared.warning.Suspicion.TheVariants.{LeftOut, NoForm, Ignored}
-use Rattle.trac_warnings.specs.declared.warning.Suspicion.TheVariants.{NoResult, NothingLeft, HaltInside}
-use Rattle.trac_warnings.specs.declared.warning.Suspicion.TheVariants.{ReadsAlways, GapInName, NoCall}
+use Rattle.trac_warnings.specs.declared.warning.Suspicion.TheVariants.{LeftOut, NoForm, BlankInName, Ignored}
+use Rattle.trac_warnings.specs.declared.warning.Suspicion.TheVariants.{NoResult, NoDigits, FormAsNumber}
+use Rattle.trac_warnings.specs.declared.warning.Suspicion.TheVariants.{DigitsInside, NothingLeft, NothingFound}
+use Rattle.trac_warnings.specs.declared.warning.Suspicion.TheVariants.{HaltInside}
+use Rattle.trac_warnings.specs.declared.warning.Suspicion.TheVariants.{AllTaken, BlankInSide, LetterInSide}
+use Rattle.trac_warnings.specs.declared.warning.Suspicion.TheVariants.{ReadsAlways, CallPrinted, LineEndAsMeta}
+use Rattle.trac_warnings.specs.declared.warning.Suspicion.TheVariants.{GapInName, NotInForm, NoGap, FewArguments}
+use Rattle.trac_warnings.specs.declared.warning.Suspicion.TheVariants.{InOtherLetters, GapInWord, NoCall, Misspelled}
 use Rattle.trac_warnings.specs.declared.warning.Suspicion.TheVariants.{OpenCall, Protection, Dropped, EndInside}
-use Rattle.trac_warnings.specs.declared.warning.Suspicion.TheVariants.{OpenString}
+use Rattle.trac_warnings.specs.declared.warning.Suspicion.TheVariants.{OpenString, CurlyEnd}
 
 -- the sentence on a suspicion, before the name, the text or the number
 abbrev pub sentence_of : Suspicion → Text
@@ -27,22 +32,87 @@ sentence_of Bracket = codes "#[ begins no call; write #("
 sentence_of NoNumberSign =
     codes "no number sign stands before the parenthesis, so this is no call of "
 sentence_of NoFunction = codes "no function has the name "
+sentence_of Misspelled = codes "no function has the name "
 sentence_of FormAsFunction = codes "no function has this name, but a form has; write #(cl,"
 sentence_of LeftOut = codes "this processor leaves out the function "
 sentence_of NoForm = codes "no form has the name "
+sentence_of BlankInName =
+    codes "no form has this name, but one has it without the blanks or line ends around it: "
 sentence_of Ignored = codes "the function takes no notice of the argument "
 sentence_of NoResult = codes "there is no result, and no default value is given: "
+sentence_of NoDigits = codes "a text without digits stands for the number 0: "
+sentence_of FormAsNumber = codes "this text is no number, but a form has the name; write #(cl,"
+sentence_of DigitsInside = codes "only the digits at the end of a text are its number: "
 sentence_of NothingLeft = codes "nothing is left, and no default value is given, of the form "
+sentence_of NothingFound = codes "nothing is found, and no default value is given, in the form "
+sentence_of AllTaken = codes "nothing is left of the form; to begin it again, write #(cr,"
+sentence_of BlankInSide =
+    codes "the sides of eq differ only by blanks or line ends around them: "
+sentence_of LetterInSide = codes "the sides of eq differ only in capitals and small letters: "
 sentence_of HaltInside =
     codes "hl ends the run before the call around it is performed, which is of "
 sentence_of ReadsAlways = codes "what isn't protected always reads, here in a default value of "
+sentence_of CallPrinted = codes "a call is printed here and not performed, of "
+sentence_of LineEndAsMeta = codes "lines end with CR and LF, of which one becomes the meta character: "
 sentence_of GapInName = codes "a text of ss also stands in the name of a call: "
+sentence_of GapInWord = codes "a text of ss also stands inside longer words: "
+sentence_of NotInForm = codes "this text stands nowhere in the form "
+sentence_of InOtherLetters =
+    codes "this text stands only in other letters (capitals or small) in the form "
+sentence_of NoGap = codes "no gap is there for this argument in the form "
+sentence_of FewArguments = codes "fewer arguments than gaps: "
 sentence_of NoCall = codes "a right parenthesis ends no call of its string"
 sentence_of OpenCall = codes "a call is still open where its string ends"
 sentence_of Protection = codes "a left parenthesis has no match in its string"
 sentence_of Dropped = codes "a left parenthesis has no match; characters dropped: "
 sentence_of EndInside = codes "the meta character ends the string inside parentheses"
 sentence_of OpenString = codes "no meta character ends the string"
+sentence_of CurlyEnd = codes "a typographic apostrophe ends no string; write ' for it"
+
+-- whether a suspicion is on how a script is written
+abbrev pub is_on_writing : Suspicion → Bool
+is_on_writing Mark = true
+is_on_writing OtherMeta = true
+is_on_writing LineNumbers = true
+is_on_writing Colon = true
+is_on_writing Blank = true
+is_on_writing Bracket = true
+is_on_writing NoNumberSign = true
+is_on_writing _ = false
+
+-- whether a suspicion is on what a call calls, takes notice of, computes, compares or prints
+abbrev pub is_on_call : Suspicion → Bool
+is_on_call NoFunction = true
+is_on_call Misspelled = true
+is_on_call FormAsFunction = true
+is_on_call LeftOut = true
+is_on_call Ignored = true
+is_on_call NoResult = true
+is_on_call NoDigits = true
+is_on_call FormAsNumber = true
+is_on_call DigitsInside = true
+is_on_call BlankInSide = true
+is_on_call LetterInSide = true
+is_on_call HaltInside = true
+is_on_call ReadsAlways = true
+is_on_call CallPrinted = true
+is_on_call LineEndAsMeta = true
+is_on_call _ = false
+
+-- whether a suspicion is on the form that a call names
+abbrev pub is_on_form : Suspicion → Bool
+is_on_form NoForm = true
+is_on_form BlankInName = true
+is_on_form NothingLeft = true
+is_on_form NothingFound = true
+is_on_form AllTaken = true
+is_on_form GapInName = true
+is_on_form GapInWord = true
+is_on_form NotInForm = true
+is_on_form InOtherLetters = true
+is_on_form NoGap = true
+is_on_form FewArguments = true
+is_on_form _ = false
 
 -- the functions of the language that this processor leaves out: those of external blocks, of the
 -- trace and of modes
@@ -61,14 +131,39 @@ suspicion_of_name (c ∷ name) =
     if is_some (function_named (c ∷ name)) then None
     else (if is_left_out (c ∷ name) then Some LeftOut else Some NoFunction)
 
+-- what stands behind a name at the head of the bytes; null, if they don't begin with the name
+abbrev pub behind_name : Text → List ℕ → List ℕ
+behind_name [] bytes = bytes
+behind_name (c ∷ name) [] = []
+behind_name (c ∷ name) (b ∷ bytes) = if b == c then behind_name name bytes else []
+
+-- whether the bytes begin with a comma or a right parenthesis
+abbrev pub ends_argument : List ℕ → Bool
+ends_argument [] = false
+ends_argument (b ∷ bytes) = (b == 44) || (b == 41)
+
+-- whether the bytes begin with a right parenthesis
+abbrev pub ends_call : List ℕ → Bool
+ends_call [] = false
+ends_call (b ∷ bytes) = b == 41
+
 -- whether bytes begin with a name and, behind it, a comma or a right parenthesis
 abbrev pub begins_argument : Text → List ℕ → Bool
-begins_argument [] [] = false
-begins_argument [] (b ∷ bytes) = (b == 44) || (b == 41)
-begins_argument (c ∷ name) [] = false
-begins_argument (c ∷ name) (b ∷ bytes) = (b == c) && begins_argument name bytes
+begins_argument name bytes = ends_argument (behind_name name bytes)
 
 -- whether a name stands in the input as an argument
 abbrev pub is_written : Text → List ℕ → Bool
 is_written name [] = false
 is_written name (b ∷ bytes) = ((b == 44) && begins_argument name bytes) || is_written name bytes
+
+-- whether bytes begin with a call of `cl`, behind its number sign, for the form of a name and without an argument
+abbrev pub calls_alone : Text → List ℕ → Bool
+calls_alone name (a ∷ b ∷ c ∷ d ∷ bytes) =
+    ((a == 40) && (to_ascii_lowercase b == 99))
+    && (((to_ascii_lowercase c == 108) && (d == 44)) && ends_call (behind_name name bytes))
+calls_alone name bytes = false
+
+-- whether a call of `cl` without an argument, for the form of a name, stands in the input
+abbrev pub is_called_alone : Text → List ℕ → Bool
+is_called_alone name [] = false
+is_called_alone name (b ∷ bytes) = calls_alone name (b ∷ bytes) || is_called_alone name bytes

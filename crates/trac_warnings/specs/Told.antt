@@ -18,13 +18,15 @@ use Rattle.trac_events.specs.Calls.{SeesValue, argument_of}
 use Rattle.trac_events.specs.declared.before.Before.{Before}
 use Rattle.trac_warnings.specs.Looked.{open_string, place_of}
 use Rattle.trac_warnings.specs.Origins.{in_input, more}
-use Rattle.trac_warnings.specs.Performed.{function_of, of_text, where_so}
+use Rattle.trac_warnings.specs.Performed.{function_of, has_odd_operand, of_text, where_so}
+use Rattle.trac_warnings.specs.Script.{curly_end}
 use Rattle.trac_warnings.specs.Strings.{layout_len}
 use Rattle.trac_warnings.specs.Watched.{Said, end_of_text, said}
 use Rattle.trac_warnings.specs.declared.origin.Origin.{Origin}
 use Rattle.trac_warnings.specs.declared.warning.Suspicion.{Suspicion}
 use Rattle.trac_warnings.specs.declared.warning.Suspicion.TheVariants.{Dropped, EndInside, NoResult, OpenCall}
 use Rattle.trac_warnings.specs.declared.warning.Suspicion.TheVariants.{OpenString as NotEnded, Protection}
+use Rattle.trac_warnings.specs.declared.warning.Suspicion.TheVariants.{CurlyEnd}
 use Rattle.trac_warnings.specs.declared.watch.OpenString.{OpenString}
 use Rattle.trac_warnings.specs.declared.watch.Watch.{Watch}
 
@@ -65,10 +67,11 @@ is_null watch before active neutral =
 abbrev pub call_place : {A : Type 0} → Watch A → Origin
 call_place watch = unwrap_or (slice_get watch.calls.items (length watch.calls.items - 1)) watch.value
 
--- the warning of a call of arithmetic that has no result
+-- the warning of a call of arithmetic that has no result, unless something is suspicious in what it computes with
 abbrev pub result_warnings : {A : Type 0} → Watch A → Before → (active neutral : ℕ) → List Said
 result_warnings watch before active neutral =
-    where_so (is_arithmetic (function_of watch.arguments.items) && is_null watch before active neutral)
+    where_so (is_arithmetic (function_of watch.arguments.items)
+    && (is_null watch before active neutral && not (has_odd_operand watch.arguments.items)))
     NoResult (call_place watch) (argument_of watch.arguments.items 0)
 
 -- the warnings of what a step did, by its rule
@@ -109,11 +112,22 @@ is_ended_at input end meta = option_eq nat_eq (slice_get input end) (Some meta)
 abbrev pub begin_of_text : List ℕ → (start end : ℕ) → ℕ
 begin_of_text input start end = more start (layout_len (take (end - start) (drop start input)))
 
+-- where the typographic apostrophe stands that a text ends with, if the apostrophe is the meta character
+abbrev pub curly_for : (meta : ℕ) → List ℕ → Option ℕ
+curly_for meta text = if meta == 39 then curly_end text else None
+
+-- the warning of a string that begins at a place, and that no meta character ends, or a typographic apostrophe in
+-- its place
+abbrev pub open_text : Option ℕ → (begin : ℕ) → Said
+open_text None begin = of_text NotEnded (in_input begin) []
+open_text (Some place) begin = of_text CurlyEnd (in_input (more begin place)) []
+
 -- the warning of a string that was read from one place up to another, unless a meta character ends it
 abbrev pub text_warnings : List ℕ → (start end meta : ℕ) → List Said
 text_warnings input start end meta =
     let begin = begin_of_text input start end in
-    where_so (not (is_ended_at input end meta) && nat_lt begin end) NotEnded (in_input begin) []
+    if not (is_ended_at input end meta) && nat_lt begin end
+    then open_text (curly_for meta (take (end - begin) (drop begin input))) begin ∷ [] else []
 
 -- the warning of a string that a step read from place `read` of the input on, if its value has `len` characters
 abbrev pub read_warnings : Awaits → Before → List ℕ → (read len : ℕ) → List Said

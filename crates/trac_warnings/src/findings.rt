@@ -1,7 +1,7 @@
 //! The warnings of a whole run, in the order of their places, with how often each was given.
 ghost use Rattle.std.specs.Prelude.{◌≡◌, ◌==◌, [], length, not, true, false, IfOk, OnOk};
 ghost use Rattle.std.specs.BTreeMap.{get, insert_entry};
-ghost use Rattle.trac_warnings.specs.Findings.{is_among, is_no_form, is_repeated, once_more};
+ghost use Rattle.trac_warnings.specs.Findings.{is_among, is_noted, is_of_form, is_repeated, once_more};
 ghost use Rattle.trac_warnings.specs.Findings.{texts_of, with_text};
 
 use crate::warning::{Suspicion, Warning};
@@ -13,35 +13,40 @@ use std::collections::{BTreeMap, BTreeSet};
 pub struct Findings<A: Allocator> {
     // How often each warning was given, in the order of the places.
     counts: BTreeMap<Warning<A>, u64, A>,
-    // The names that no form has and that a warning was kept of.
-    missing: BTreeSet<Vec<u8, A>, A>,
+    // The names of the forms of which a warning was kept that each form gets once, and the names that no function has.
+    told: BTreeSet<Vec<u8, A>, A>,
 }
 
 impl<A: Allocator + Copy> Findings<A> {
     /// No warning yet.
     pub fn new(alloc: A) -> Findings<A>
         ensures counts { result.counts.entries ≡ [] }
-        ensures missing { texts_of result.missing ≡ [] }
+        ensures told { texts_of result.told ≡ [] }
     {
         Findings {
             counts: BTreeMap::new(alloc),
-            missing: BTreeSet::new(alloc),
+            told: BTreeSet::new(alloc),
         }
     }
 
-    /// Adds a warning. Of a name that no form has only the first warning is kept, wherever the
-    /// others stand. Fails only if memory runs out.
+    /// Adds a warning. Of a form's name only the first warning is kept that no form has it, that a text of `ss`
+    /// isn't in the form, or that the form has no gap for an argument, wherever the others stand: they mostly
+    /// come from one mistake. So it is with the number of arguments that a form got. A name that is nearly that of a
+    /// function is told once, and not at all if a call of that name was told. Fails only if memory runs out.
     pub fn add(&mut self, warning: Warning<A>) -> Result<(), AllocError>
-        ensures repeated { is_repeated warning self.old.missing ≡ true →
+        ensures repeated { is_repeated warning self.old.told ≡ true →
             self.new.counts.entries ≡ self.old.counts.entries }
-        ensures counted { is_repeated warning self.old.missing ≡ false →
+        ensures counted { is_repeated warning self.old.told ≡ false →
             OnOk result (self.new.counts.entries ≡ insert_entry ⟦<Warning<A> as Ord>⟧.cmp self.old.counts.entries
             warning (once_more (get ⟦<Warning<A> as Ord>⟧.cmp self.old.counts warning))) }
-        ensures others { is_no_form warning.suspicion ≡ false → self.new.missing ≡ self.old.missing }
-        ensures missing { is_no_form warning.suspicion ≡ true → OnOk result (texts_of self.new.missing ≡
-            with_text warning.text.items (texts_of self.old.missing)) }
+        ensures others { is_noted warning.suspicion ≡ false → self.new.told ≡ self.old.told }
+        ensures told { is_noted warning.suspicion ≡ true → OnOk result (texts_of self.new.told ≡
+            with_text warning.text.items (texts_of self.old.told)) }
     {
-        if warning.suspicion == Suspicion::NoForm && !note_name(&mut self.missing, &warning.text)? {
+        if !is_noted(warning.suspicion) {
+            return count(&mut self.counts, warning);
+        }
+        if !note_name(&mut self.told, &warning.text)? && is_of_form(warning.suspicion) {
             return Ok(());
         }
         count(&mut self.counts, warning)
@@ -67,6 +72,29 @@ impl<A: Allocator + Copy> Findings<A> {
     {
         &self.counts
     }
+}
+
+// Whether each form, or name, gets one warning of this kind and of its kin.
+fn is_of_form(suspicion: Suspicion) -> bool
+    ensures { result ≡ is_of_form suspicion }
+{
+    matches!(
+        suspicion,
+        Suspicion::NoForm
+            | Suspicion::BlankInName
+            | Suspicion::NotInForm
+            | Suspicion::InOtherLetters
+            | Suspicion::NoGap
+            | Suspicion::FewArguments
+            | Suspicion::Misspelled
+    )
+}
+
+// Whether the name of a warning of this kind is kept, so that no other is given of it.
+fn is_noted(suspicion: Suspicion) -> bool
+    ensures { result ≡ is_noted suspicion }
+{
+    is_of_form(suspicion) || matches!(suspicion, Suspicion::NoFunction)
 }
 
 // Adds a name. False if it was there before.

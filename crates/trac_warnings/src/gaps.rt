@@ -1,8 +1,9 @@
-//! Texts of `ss` in the names of the calls of a form.
-ghost use Rattle.std.specs.Prelude.{◌≡◌, IfOk};
+//! Gaps of a form, and texts of `ss` in it and in the names of its calls.
+ghost use Rattle.std.specs.Prelude.{◌≡◌, drop, IfOk};
 ghost use Rattle.trac_space.specs.Texts.{text_of_cells};
-ghost use Rattle.trac_warnings.specs.Gaps.{begins, begins_in_name, behind_opening, ends_name};
-ghost use Rattle.trac_warnings.specs.Gaps.{is_character, stands_in_name};
+ghost use Rattle.trac_language.specs.Form.{after_pointer};
+ghost use Rattle.trac_warnings.specs.Gaps.{begins, begins_in_name, behind_opening, ends_name, is_absent};
+ghost use Rattle.trac_warnings.specs.Gaps.{highest_gap, is_character, stands_in, stands_in_name, with_gap};
 
 use std::alloc::{AllocError, Allocator};
 use trac_core::{Item, StoredForm};
@@ -10,7 +11,7 @@ use trac_space::{Cell, character_of};
 
 /// Whether a text begins in the name of a call among these items. The name stands behind a number sign and a
 /// left parenthesis, up to a comma, a parenthesis, a number sign or a gap.
-pub fn stands_in_name(text: &[Cell], items: &[Item]) -> bool
+pub(crate) fn stands_in_name(text: &[Cell], items: &[Item]) -> bool
     ensures { result ≡ stands_in_name (text_of_cells text.now) items.now }
 {
     for i in 0..items.len() {
@@ -19,6 +20,86 @@ pub fn stands_in_name(text: &[Cell], items: &[Item]) -> bool
         }
     }
     false
+}
+
+/// Whether a text, which isn't null, stands among these items.
+pub(crate) fn stands_in(text: &[Cell], items: &[Item]) -> bool
+    ensures { result ≡ stands_in (text_of_cells text.now) items.now }
+{
+    for i in 0..items.len() {
+        if begins(text, &items[i..]) {
+            return true;
+        }
+    }
+    false
+}
+
+/// Whether something of a form is left, and a text for which `in` looks doesn't stand there.
+pub(crate) fn is_absent(text: &[Cell], form: &StoredForm) -> bool
+    ensures { result ≡ is_absent (text_of_cells text.now) form.now }
+{
+    if text.is_empty() {
+        return false;
+    }
+    if form.pointer() >= form.body_len() {
+        return false;
+    }
+    !stands_in_rest(text, form)
+}
+
+// Whether a text, which isn't null, stands in a form from its pointer on.
+fn stands_in_rest(text: &[Cell], form: &StoredForm) -> bool
+    ensures { result ≡ stands_in (text_of_cells text.now) (after_pointer form.now) }
+{
+    for place in form.pointer()..form.body_len() {
+        if begins_at(text, form, place) {
+            return true;
+        }
+    }
+    false
+}
+
+// Whether the items of a form begin with a text at this place.
+fn begins_at(text: &[Cell], form: &StoredForm, place: u32) -> bool
+    ensures { result ≡ begins (text_of_cells text.now) (drop place form.now.body) }
+{
+    let mut rest = text;
+    for behind in place..form.body_len() {
+        let [cell, others @ ..] = rest else {
+            return true;
+        };
+        let Some(item) = form.item(behind) else {
+            return false;
+        };
+        if !is_character(&item, character_of(cell)) {
+            return false;
+        }
+        rest = others;
+    }
+    rest.is_empty()
+}
+
+/// The highest ordinal of a gap of a form; 0 if it has no gap.
+pub(crate) fn highest_gap(form: &StoredForm) -> u32
+    ensures { result ≡ highest_gap 0 form.now.body }
+{
+    let mut highest: u32 = 0;
+    for place in 0..form.body_len() {
+        if let Some(item) = form.item(place) {
+            highest = with_gap(highest, &item);
+        }
+    }
+    highest
+}
+
+// A number, or the ordinal of an item that is a gap, whichever is greater.
+fn with_gap(highest: u32, item: &Item) -> u32
+    ensures { result ≡ with_gap highest item.now }
+{
+    match item {
+        Item::Byte(_) => highest,
+        Item::Gap(ordinal) => highest.max(*ordinal),
+    }
 }
 
 // The items behind a number sign and a left parenthesis, which are the first two. None if they aren't.
@@ -50,8 +131,8 @@ fn begins_in_name(text: &[Cell], items: &[Item]) -> bool
     false
 }
 
-// Whether the items begin with a text.
-fn begins(text: &[Cell], items: &[Item]) -> bool
+/// Whether the items begin with a text.
+pub(crate) fn begins(text: &[Cell], items: &[Item]) -> bool
     ensures { result ≡ begins (text_of_cells text.now) items.now }
 {
     let mut rest = items;
@@ -88,7 +169,7 @@ fn ends_name(item: &Item) -> bool
 }
 
 /// The body of a form. Fails only if memory runs out.
-pub fn body_of<A: Allocator>(alloc: A, form: &StoredForm) -> Result<Vec<Item, A>, AllocError>
+pub(crate) fn body_of<A: Allocator>(alloc: A, form: &StoredForm) -> Result<Vec<Item, A>, AllocError>
     ensures { IfOk result (λ items. items.items ≡ form.now.body) }
 {
     let mut items = Vec::new(alloc);

@@ -3,11 +3,20 @@
 //! it is this processor's own choice; none of it is a fault of the language.
 #![tactic(auto)]
 
+mod arguments;
+mod blanks;
+mod bodies;
 mod findings;
 mod gaps;
+mod inside;
+mod letters;
+mod misspelled;
 mod names;
+mod operands;
 mod origin;
 mod performed;
+mod printed;
+mod segmented;
 mod spelling;
 mod strings;
 mod trail;
@@ -16,10 +25,8 @@ mod watch;
 mod written;
 
 pub use findings::Findings;
-pub use gaps::{body_of, stands_in_name};
-pub use names::{is_left_out, is_written, suspicion_of_name};
+pub use misspelled::look_at_names;
 pub use origin::Origin;
-pub use strings::{begins_with_mark, layout_len};
 pub use warning::{Suspicion, Warning};
 pub use watch::Watch;
 pub use written::look_at_script;

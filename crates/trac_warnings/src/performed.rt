@@ -2,20 +2,23 @@
 ghost use Rattle.std.specs.Prelude.{◌≡◌, ◌<◌, ◌-◌, ◌^◌, IfOk, OnOk};
 ghost use Rattle.trac_space.specs.Texts.{text_of_cells};
 ghost use Rattle.trac_language.specs.Table.{traits};
-ghost use Rattle.trac_warnings.specs.Performed.{Warns, call_warnings, calls_form, commas_of, form_warnings};
-ghost use Rattle.trac_warnings.specs.Performed.{function_of, gap_behind, gap_warnings, has_default};
-ghost use Rattle.trac_warnings.specs.Performed.{ignored_behind, ignored_place, inside, is_compared};
-ghost use Rattle.trac_warnings.specs.Performed.{is_in_default, is_missing, nested, next_text, of_body};
-ghost use Rattle.trac_warnings.specs.Performed.{segments, suspicion_of_call, takes_next};
+ghost use Rattle.trac_warnings.specs.Performed.{Warns, call_warnings, commas_of, form_warnings};
+ghost use Rattle.trac_warnings.specs.Performed.{given_warnings, has_default, ignored_behind, ignored_place, inside};
+ghost use Rattle.trac_warnings.specs.Performed.{is_compared, is_in_default, missing_warnings, naming};
+ghost use Rattle.trac_warnings.specs.Performed.{nested, of_text, suspicion_of_call, suspicion_of_missing};
+ghost use Rattle.trac_warnings.specs.Performed.{written_with};
 ghost use Rattle.trac_warnings.specs.Watched.{Adds, Kept};
 
-use crate::gaps::{body_of, stands_in_name};
+use crate::blanks::trimmed;
+use crate::bodies::look_at_body;
 use crate::names::{is_written, suspicion_of_name};
+use crate::operands::{look_at_operands, look_at_sides};
 use crate::origin::Origin;
+use crate::printed::{look_at_meta_change, look_at_print};
 use crate::warning::{Suspicion, Warning};
 use std::alloc::{AllocError, Allocator};
-use trac_core::{Item, Machine, StoredForm};
-use trac_events::{argument, find_form, takes_part};
+use trac_core::Machine;
+use trac_events::{argument, find_form};
 use trac_functions::function::function_named;
 use trac_language::{Function, facts_of};
 use trac_space::{Cell, character_of};
@@ -59,7 +62,26 @@ pub fn look_at_call<A: Allocator + Copy>(
     };
     look_at_ignored(warnings, alloc, function, ending)?;
     look_at_nesting(warnings, alloc, function, ending)?;
+    look_at_operands(warnings, alloc, machine, function, ending)?;
+    look_at_given(warnings, alloc, function, ending)?;
     look_at_form(warnings, alloc, machine, function, ending)
+}
+
+// Looks at the texts that a call compares, or that it prints, or that has the new meta character.
+#[tactic(auto, using(crate::proofs::Keeping::keeping))]
+fn look_at_given<A: Allocator + Copy>(
+    warnings: &mut Vec<Warning<A>, A>,
+    alloc: A,
+    function: Function,
+    ending: &Ending,
+) -> Result<(), AllocError>
+    ensures kept { Kept warnings.old.items warnings.new.items }
+    ensures said { OnOk result (Warns warnings.old.items warnings.new.items
+        (given_warnings function ending.now)) }
+{
+    look_at_sides(warnings, alloc, function, ending)?;
+    look_at_print(warnings, alloc, function, ending)?;
+    look_at_meta_change(warnings, alloc, function, ending)
 }
 
 // What is suspicious in a name that is no function's; if a form has the name, the warning says so.
@@ -105,8 +127,16 @@ fn ignored_place(most: u32, ending: &Ending) -> Option<Origin>
     requires { most < 2 ^ 32 - 1 }
     ensures { result ≡ ignored_place most ending.now }
 {
-    let place = ending.places.get(most as usize).copied()?;
-    if place.form == ending.begin.form && !argument(ending.arguments, most + 1).is_empty() {
+    let place = ending.places.get(most as usize).copied();
+    written_with(place, ending, argument(ending.arguments, most + 1))
+}
+
+/// The place of an argument. None if it is null or wasn't written in the same text as the call.
+pub(crate) fn written_with(place: Option<Origin>, ending: &Ending, cells: &[Cell]) -> Option<Origin>
+    ensures { result ≡ written_with place ending.now cells.now }
+{
+    let place = place?;
+    if place.form == ending.begin.form && !cells.is_empty() {
         Some(place)
     } else {
         None
@@ -195,26 +225,50 @@ fn look_at_form<A: Allocator + Copy>(
     }
     let name = argument(ending.arguments, 1);
     match find_form(machine, name) {
-        None if is_missing(function, name, ending) => {
-            warn(warnings, alloc, Suspicion::NoForm, ending.begin, name)
-        }
-        None => Ok(()),
+        None => look_at_missing(warnings, alloc, machine, function, name, ending),
         Some(form) => look_at_body(warnings, alloc, function, &form, ending),
     }
 }
 
-// Whether it is suspicious that no form has a name. It isn't if the call gives a default value, if it stands
-// in a call that compares, or if the script makes the name as it runs.
-fn is_missing(function: Function, name: &[Cell], ending: &Ending) -> bool
-    ensures { result ≡ is_missing function name.now ending.now }
+// Looks at a name that no form has.
+#[tactic(auto, using(crate::proofs::Keeping::keeping))]
+fn look_at_missing<A: Allocator + Copy>(
+    warnings: &mut Vec<Warning<A>, A>,
+    alloc: A,
+    machine: &Machine,
+    function: Function,
+    name: &[Cell],
+    ending: &Ending,
+) -> Result<(), AllocError>
+    ensures kept { Kept warnings.old.items warnings.new.items }
+    ensures said { OnOk result (Warns warnings.old.items warnings.new.items
+        (missing_warnings function machine.now.memory.forms name.now ending.now)) }
 {
-    !has_default(function, ending.arguments)
-        && !is_compared(ending.around)
-        && is_written(name, ending.input)
+    if has_default(function, ending.arguments) || is_compared(ending.around) {
+        return Ok(());
+    }
+    match suspicion_of_missing(machine, name, ending) {
+        Some(suspicion) => warn(warnings, alloc, suspicion, ending.begin, name),
+        None => Ok(()),
+    }
 }
 
-// Whether a call of this function gives a default value that isn't null.
-fn has_default(function: Function, arguments: &[Cell]) -> bool
+// What is suspicious in a name that no form has: that one has it without the blanks and the layout around it;
+// or that none has it, unless the script makes the name as it runs.
+fn suspicion_of_missing(machine: &Machine, name: &[Cell], ending: &Ending) -> Option<Suspicion>
+    ensures { result ≡ suspicion_of_missing machine.now.memory.forms name.now ending.now }
+{
+    if find_form(machine, trimmed(name)).is_some() {
+        Some(Suspicion::BlankInName)
+    } else if is_written(name, ending.input) {
+        Some(Suspicion::NoForm)
+    } else {
+        None
+    }
+}
+
+/// Whether a call of this function gives a default value that isn't null.
+pub(crate) fn has_default(function: Function, arguments: &[Cell]) -> bool
     ensures { result ≡ has_default function arguments.now }
 {
     match facts_of(function).traits.default {
@@ -223,8 +277,8 @@ fn has_default(function: Function, arguments: &[Cell]) -> bool
     }
 }
 
-// Whether a call compares its first two arguments, and the last one so far is one of them.
-fn is_compared(arguments: &[Cell]) -> bool
+/// Whether a call compares its first two arguments, and the last one so far is one of them.
+pub(crate) fn is_compared(arguments: &[Cell]) -> bool
     ensures { result ≡ is_compared arguments.now }
 {
     match function_named(argument(arguments, 0)) {
@@ -233,108 +287,24 @@ fn is_compared(arguments: &[Cell]) -> bool
     }
 }
 
-// Whether a call of a form is around, which may look at what it is given.
-fn is_passed(arguments: &[Cell]) -> bool
-    ensures { result ≡ calls_form (function_of arguments.now) }
-{
-    matches!(
-        function_named(argument(arguments, 0)),
-        Some(Function::CallForm)
-    )
-}
-
-// Looks at the form whose body a call takes apart or segments.
+/// Adds a warning of an argument that was written at a place; the warning names a form. Adds none without a place.
+/// An error means that memory ran out.
 #[tactic(auto, using(crate::proofs::Keeping::keeping))]
-fn look_at_body<A: Allocator + Copy>(
+pub(crate) fn warn_naming<A: Allocator + Copy>(
     warnings: &mut Vec<Warning<A>, A>,
     alloc: A,
-    function: Function,
-    form: &StoredForm,
-    ending: &Ending,
+    suspicion: Suspicion,
+    place: Option<Origin>,
+    name: &[Cell],
 ) -> Result<(), AllocError>
     ensures kept { Kept warnings.old.items warnings.new.items }
     ensures said { OnOk result (Warns warnings.old.items warnings.new.items
-        (of_body function form.now ending.now)) }
+        (naming suspicion place (text_of_cells name.now))) }
 {
-    if segments(function) {
-        let items = body_of(alloc, form)?;
-        return look_at_texts(warnings, alloc, &items, ending);
+    match place {
+        Some(place) => warn(warnings, alloc, suspicion, place, name),
+        None => Ok(()),
     }
-    if !takes_next(function)
-        || form.pointer() < form.body_len()
-        || has_default(function, ending.arguments)
-        || is_compared(ending.around)
-        || is_passed(ending.around)
-    {
-        return Ok(());
-    }
-    warn(
-        warnings,
-        alloc,
-        Suspicion::NothingLeft,
-        ending.begin,
-        form.name(),
-    )
-}
-
-// Whether a function segments a form.
-fn segments(function: Function) -> bool
-    ensures { result ≡ segments function }
-{
-    matches!(function, Function::SegmentString)
-}
-
-// Whether a function takes a part of a form without searching for it.
-fn takes_next(function: Function) -> bool
-    ensures { result ≡ takes_next function }
-{
-    takes_part(function) && !matches!(function, Function::InitialPart)
-}
-
-// Looks at the texts of a call of `ss`, whose form has these items.
-#[tactic(auto, using(crate::proofs::Keeping::keeping))]
-fn look_at_texts<A: Allocator + Copy>(
-    warnings: &mut Vec<Warning<A>, A>,
-    alloc: A,
-    items: &[Item],
-    ending: &Ending,
-) -> Result<(), AllocError>
-    ensures kept { Kept warnings.old.items warnings.new.items }
-    ensures said { OnOk result (Warns warnings.old.items warnings.new.items
-        (gap_warnings items.now ending.now)) }
-{
-    let mut k: u32 = 0;
-    for cell in ending.arguments {
-        k = look_at_text(warnings, alloc, items, ending, cell, k)?;
-    }
-    Ok(())
-}
-
-// Looks at the text behind a cell of the arguments, where argument `k` stands before it. Gives the argument that
-// stands behind the cell.
-#[tactic(auto, using(crate::proofs::Keeping::keeping))]
-fn look_at_text<A: Allocator + Copy>(
-    warnings: &mut Vec<Warning<A>, A>,
-    alloc: A,
-    items: &[Item],
-    ending: &Ending,
-    cell: &Cell,
-    k: u32,
-) -> Result<u32, AllocError>
-    ensures kept { Kept warnings.old.items warnings.new.items }
-    ensures said { OnOk result (Warns warnings.old.items warnings.new.items
-        (gap_behind cell.now k items.now ending.now)) }
-    ensures next { IfOk result (λ next. next ≡ next_text cell.now k) }
-{
-    if !matches!(cell, Cell::Comma) {
-        return Ok(k);
-    }
-    let next = k.saturating_add(1);
-    let text = argument(ending.arguments, next);
-    if next > 1 && !text.is_empty() && stands_in_name(text, items) {
-        warn(warnings, alloc, Suspicion::GapInName, ending.begin, text)?;
-    }
-    Ok(next)
 }
 
 /// Adds a warning. An error means that memory ran out.
@@ -355,6 +325,21 @@ pub fn warn<A: Allocator + Copy>(
     })) }
 {
     let text = characters_of(alloc, cells)?;
+    warn_of(warnings, suspicion, origin, text)
+}
+
+/// Adds a warning of a text. An error means that memory ran out.
+#[tactic(auto, using(crate::proofs::Keeping::saying))]
+pub(crate) fn warn_of<A: Allocator>(
+    warnings: &mut Vec<Warning<A>, A>,
+    suspicion: Suspicion,
+    origin: Origin,
+    text: Vec<u8, A>,
+) -> Result<(), AllocError>
+    ensures kept { Kept warnings.old.items warnings.new.items }
+    ensures said { OnOk result (Adds warnings.old.items warnings.new.items
+        (of_text suspicion origin text.items)) }
+{
     warnings.push(Warning {
         origin,
         suspicion,

@@ -1,8 +1,9 @@
 //! What is suspicious in how a script is written, before it is run.
-ghost use Rattle.std.specs.Prelude.{◌≡◌, IfOk, OnOk, None, true, false, get_or};
+ghost use Rattle.std.specs.Prelude.{◌≡◌, ◌<◌, IfOk, IfSome, OnOk, None, true, false, get_or, length};
 ghost use Rattle.trac_warnings.specs.Origins.{in_input};
 ghost use Rattle.trac_warnings.specs.Performed.{Warns};
-ghost use Rattle.trac_warnings.specs.Script.{behind_digits, is_numbered, numbered_lines, other_meta};
+ghost use Rattle.trac_warnings.specs.Script.{behind_digits, curly_end, is_numbered, last_seen, numbered_lines};
+ghost use Rattle.trac_warnings.specs.Script.{other_meta};
 ghost use Rattle.trac_warnings.specs.Script.{script_warnings, spelled, spelled_at, told_behind};
 ghost use Rattle.trac_warnings.specs.Spelling.{spelling_of};
 ghost use Rattle.trac_warnings.specs.Watched.{Adds, Kept};
@@ -39,22 +40,44 @@ pub fn look_at_script<A: Allocator + Copy>(
 }
 
 // The byte that seems to end the strings of a script without any apostrophe, and its place: the
-// last byte apart from layout and blanks, unless it is a letter, a digit or a right parenthesis.
+// last byte apart from layout and blanks, unless it is a letter, a digit or a right parenthesis, or belongs to a
+// typographic apostrophe.
 fn other_meta(input: &[u8]) -> Option<(usize, u8)>
     ensures { result ≡ other_meta input.now }
 {
-    if input.contains(&b'\'') {
+    if input.contains(&b'\'') || curly_end(input).is_some() {
         return None;
     }
+    let last = last_seen(input);
+    match last {
+        Some((_, byte)) if byte.is_ascii_alphanumeric() || byte == b')' => None,
+        _ => last,
+    }
+}
+
+// The last byte that is no layout and no blank, and its place.
+fn last_seen(text: &[u8]) -> Option<(usize, u8)>
+    ensures value { result ≡ last_seen None 0 text.now }
+    ensures within { IfSome result (λ last. last.0 < length text.now) }
+{
     let mut last = None;
-    for (place, byte) in input.iter().enumerate() {
+    for (place, byte) in text.iter().enumerate() {
         if !is_layout(*byte) && *byte != b' ' {
             last = Some((place, *byte));
         }
     }
-    match last {
-        Some((_, byte)) if byte.is_ascii_alphanumeric() || byte == b')' => None,
-        _ => last,
+    last
+}
+
+/// Where the typographic apostrophe stands, in UTF-8, that a text ends with, apart from layout and blanks.
+pub(crate) fn curly_end(text: &[u8]) -> Option<usize>
+    ensures { result ≡ curly_end text.now }
+{
+    let (place, _) = last_seen(text)?;
+    if text[..=place].ends_with(b"\xe2\x80\x99") {
+        Some(place.saturating_sub(2))
+    } else {
+        None
     }
 }
 
@@ -170,9 +193,9 @@ fn look_at_place<A: Allocator + Copy>(
     Ok(false)
 }
 
-// Adds a warning of a place of the input.
+/// Adds a warning of a place of the input. An error means that memory ran out.
 #[tactic(auto, using(crate::proofs::Keeping::saying))]
-fn warn_at<A: Allocator + Copy>(
+pub(crate) fn warn_at<A: Allocator + Copy>(
     warnings: &mut Vec<Warning<A>, A>,
     alloc: A,
     suspicion: Suspicion,

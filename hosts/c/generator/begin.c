@@ -163,6 +163,11 @@ HELPER u64 div64_u(u64 a, u64 b) {
         trap();
     return a / b;
 }
+HELPER u64 rem64_u(u64 a, u64 b) {
+    if (b == 0)
+        trap();
+    return a % b;
+}
 HELPER u32 div32_u(u32 a, u32 b) {
     if (b == 0)
         trap();

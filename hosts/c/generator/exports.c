@@ -105,6 +105,67 @@ static void trac_engine_again(void *machine, uint64_t steps) {
     engine_again(address_of(machine), steps);
 }
 
+static void trac_engine_stop_at_unknown(void *machine, uint32_t stops) {
+    engine_stop_at_unknown(address_of(machine), stops);
+}
+
+static trac_report trac_engine_answer(void *machine, const uint8_t *value, size_t value_len, uint32_t how) {
+    struct engine_report report;
+    engine_answer(address_of(&report), address_of(machine), address_of(value), value_len, how);
+    return told(&report);
+}
+
+static trac_report trac_engine_skip_print(void *machine) {
+    struct engine_report report;
+    engine_skip_print(address_of(&report), address_of(machine));
+    return told(&report);
+}
+
+static size_t trac_engine_printed(void *machine, size_t from, uint8_t *to, size_t room) {
+    return (size_t)engine_printed(address_of(machine), from, address_of(to), room);
+}
+
+/* Where the first byte of a number is the greatest, the codes are turned for the engine, and then turned back. */
+static uint32_t trac_engine_define(void *machine, const uint8_t *name, size_t name_len, const uint32_t *codes,
+                                   size_t count, size_t pointer) {
+    uint32_t *const given = (uint32_t *)(uintptr_t)codes;
+    const size_t turned = order32(1) == 1 ? 0 : count;
+    (void)in_order(given, turned, turned);
+    const uint32_t answer = engine_define(address_of(machine), address_of(name), name_len, address_of(codes), count,
+                                          pointer);
+    (void)in_order(given, turned, turned);
+    return answer;
+}
+
+static uint32_t trac_engine_define_text(void *machine, const uint8_t *name, size_t name_len, const uint8_t *body,
+                                        size_t body_len) {
+    return engine_define_text(address_of(machine), address_of(name), name_len, address_of(body), body_len);
+}
+
+static uint32_t trac_engine_delete(void *machine, const uint8_t *name, size_t name_len) {
+    return engine_delete(address_of(machine), address_of(name), name_len);
+}
+
+static void trac_engine_delete_all(void *machine) {
+    engine_delete_all(address_of(machine));
+}
+
+static uint32_t trac_engine_set_meta(void *machine, uint32_t byte) {
+    return engine_set_meta(address_of(machine), byte);
+}
+
+static size_t trac_engine_find_form(void *machine, const uint8_t *name, size_t name_len) {
+    return (size_t)engine_find_form(address_of(machine), address_of(name), name_len);
+}
+
+static size_t trac_engine_save(void *machine, uint8_t *to, size_t room) {
+    return (size_t)engine_save(address_of(machine), address_of(to), room);
+}
+
+static uint32_t trac_engine_load(void *machine, const uint8_t *image, size_t image_len) {
+    return engine_load(address_of(machine), address_of(image), image_len);
+}
+
 static uint32_t trac_engine_take_peak(void *machine) {
     return engine_take_peak(address_of(machine));
 }
@@ -171,6 +232,11 @@ static uint32_t trac_engine_rule(void *machine) {
 
 static size_t trac_engine_part(void *machine, uint32_t which) {
     return (size_t)engine_part(address_of(machine), which);
+}
+
+/* Only the package for JavaScript calls this export. */
+HELPER size_t trac_engine_value_source(void *machine, uint32_t which) {
+    return (size_t)engine_value_source(address_of(machine), which);
 }
 
 static uint32_t trac_engine_meta(void *machine) {

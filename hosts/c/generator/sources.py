@@ -16,11 +16,12 @@ TAKEN = frozenset('''auto bool break case char class const continue copy default
 
 
 class Source:
-    """A function in a source: its crate, its file and line there, the text of its docstring, its parameters and their
-    types, and the type of its result."""
+    """A function in a source: its crate, its file and line there, the text of its docstring, whether it is to be a part
+    of those that call it, its parameters and their types, and the type of its result."""
 
-    def __init__(self, place, doc, params, result):
-        self.place, self.doc, self.params, self.result = place, doc, params, result
+    def __init__(self, place, above, params, result):
+        self.place, self.doc, self.params, self.result = place, doc_of(above), params, result
+        self.is_part = '#[inline(always)]' in above
 
 
 def crates():
@@ -72,13 +73,17 @@ def signature(text):
                 found[1].strip() if found else '')
 
 
-def doc_of(lines, at):
-    """The docstring above a line."""
-    found = []
-    while at and re.match(r' *(///|#\[)', lines[at - 1]):
-        at -= 1
-        if lines[at].lstrip().startswith('///'):
-            found.insert(0, lines[at].strip()[3:].strip())
+def above_of(lines, at):
+    """The docstring and the attributes above a line."""
+    begin = at
+    while begin and re.match(r' *(///|#\[)', lines[begin - 1]):
+        begin -= 1
+    return [line.strip() for line in lines[begin:at]]
+
+
+def doc_of(above):
+    """The first part of a docstring."""
+    found = [line[3:].strip() for line in above if line.startswith('///')]
     return ' '.join(found[:found.index('')] if '' in found else found)
 
 
@@ -146,7 +151,7 @@ def add_sources(found, text, place, crate, module):
         head = HEAD.match(line)
         if head:
             rest = '\n'.join(lines[at:at + 12])
-            source = Source((*place, at + 1), doc_of(lines, at), *signature(rest[rest.index(head[1]):]))
+            source = Source((*place, at + 1), above_of(lines, at), *signature(rest[rest.index(head[1]):]))
             for one in owners:
                 found.setdefault(words_of(crate, module, one, head[1]), source)
                 if one:

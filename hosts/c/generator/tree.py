@@ -17,9 +17,10 @@ INSTRUCTIONS = frozenset("""
     i32.const i32.add i32.sub i32.mul i32.and i32.or i32.xor i32.shl i32.shr_u i32.div_u i32.rem_u i32.clz i32.extend8_s
     i32.eqz i32.eq i32.ne i32.lt_s i32.lt_u i32.gt_s i32.gt_u i32.le_u i32.ge_s i32.ge_u i32.wrap_i64
     i32.load i32.load8_s i32.load8_u i32.load16_u i32.store i32.store8 i32.store16
-    i64.const i64.add i64.sub i64.mul i64.and i64.or i64.xor i64.shl i64.shr_s i64.shr_u i64.div_s i64.div_u i64.clz
-    i64.eqz i64.eq i64.ne i64.lt_s i64.lt_u i64.gt_u i64.le_s i64.le_u i64.ge_s i64.ge_u i64.extend_i32_u
-    i64.load i64.load8_u i64.load16_u i64.load32_u i64.store i64.store16 i64.store32""".split())
+    i64.const i64.add i64.sub i64.mul i64.and i64.or i64.xor i64.shl i64.shr_s i64.shr_u i64.div_s i64.div_u i64.rem_u
+    i64.clz
+    i64.eqz i64.eq i64.ne i64.lt_s i64.lt_u i64.gt_s i64.gt_u i64.le_s i64.le_u i64.ge_s i64.ge_u i64.extend_i32_u
+    i64.load i64.load8_u i64.load16_u i64.load32_u i64.store i64.store8 i64.store16 i64.store32""".split())
 STACK = '$__stack_pointer'
 # Greater expressions are put into a variable.
 GREATEST = 14

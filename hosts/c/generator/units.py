@@ -11,6 +11,8 @@ OF_RUNS, OF_CHECK = 4, 3
 SHARED = 1
 # A function of twice the lines takes two times and a half as long: 2 to this power. Measured with gcc 12.
 LONG = 1.35
+# The functions of trac.h and the tables, which stand in the first unit, as such a time.
+API = 40000
 
 
 class Piece:
@@ -59,12 +61,12 @@ class Cut:
                  if one < other and self.weights[one] + self.weights[other] <= most]
         return max(pairs, default=None)
 
-    def into(self, count):
-        """The functions of each of so many units."""
-        most = sum(self.weights.values()) / count
+    def into(self, count, beside):
+        """The functions of each of so many units. The first has what weighs `beside` too."""
+        most = (sum(self.weights.values()) + beside) / count
         while pair := self.best_pair(most):
             self.join(*pair[1:])
-        units = [[0, []] for _ in range(count)]
+        units = [[0 if unit else beside, []] for unit in range(count)]
         for name in sorted(self.weights, key=lambda name: (-self.weights[name], name)):
             lightest = min(units, key=lambda unit: unit[0])
             lightest[0] += self.weights[name]
@@ -86,7 +88,7 @@ def assign(pieces, entries):
         weights = {name: weight(pieces, piece) for name, piece in pieces.items()
                    if piece.of_runs == of_runs and not piece.is_small}
         calls = {name: pieces[name].calls for name in weights}
-        for unit, names in enumerate(Cut(weights, calls).into(count), first):
+        for unit, names in enumerate(Cut(weights, calls).into(count, API if of_runs else 0), first):
             for name in names:
                 pieces[name].bits |= 1 << unit | (SHARED if of_runs and pieces[name].of_check else 0)
     for piece in list(pieces.values()):

@@ -161,8 +161,10 @@ def pieces_of(module, sources=None):
     pieces = {}
     for name, function in functions.items():
         lines = lines_in_c(module, functions, function)
-        # A function that calls no other is a part of those that call it, unless it is too long for that.
-        is_small = len(lines) <= (MIDDLE if total[name] <= FEW else SHORT) and not calls[name]
+        # A function that calls no other is a part of those that call it, if it is short enough for that, or if its
+        # source asks for it.
+        is_short = len(lines) <= (MIDDLE if total[name] <= FEW else SHORT)
+        is_small = not calls[name] and (is_short or bool(function.source and function.source.is_part))
         pieces[function.c_name] = Piece(
             function.place(), function.said(), function.text_of_head(), lines,
             {module.names[callee]: count for callee, count in calls[name].items()}, is_small)

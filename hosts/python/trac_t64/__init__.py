@@ -1,8 +1,7 @@
 """Cenotesieve: TRAC T-64, the text language of Calvin Mooers, in a workspace of fixed size.
 
-`run` runs a script to its end, and `check` tells what is suspicious in it. A `Session` keeps one machine:
-its input comes in pieces, its steps can be made one by one and shown as lines, and its forms stay from one
-script to the next.
+`run` runs a script to its end, and `check` reports what is suspicious in it. A `Session` keeps one machine: its input
+comes in pieces, its steps can be made one by one and shown as lines, and its forms stay from one script to the next.
 
 >>> from trac_t64 import run
 >>> run("#(ps,hello)'").text

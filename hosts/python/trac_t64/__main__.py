@@ -1,5 +1,5 @@
-"""python -m trac_t64: runs scripts, with the words, the lines and the statuses of `trac`; shows their steps, with the
-lines of `trac_trace`; or checks them, with those of `trac_terminal --check`."""
+"""python -m trac_t64: runs scripts, with the options, the lines and the statuses of `trac`; shows their steps, with the
+lines of `trac_trace`; or checks them, with the lines of `trac_terminal --check`."""
 from __future__ import annotations
 
 import argparse
@@ -23,7 +23,7 @@ DONE, WORKSPACE, USAGE, STEPS, INPUT_FAILED, OUTPUT_FAILED, NO_MEMORY, SUSPICIOU
 STATUS = {Fate.WORKSPACE: WORKSPACE, Fate.STEPS: STEPS}
 
 
-# ---- The words.
+# ---- The options.
 
 
 class Once(argparse.Action):
@@ -37,7 +37,7 @@ class Once(argparse.Action):
 
 
 def number_to(most: int, least: int = 1) -> Callable[[str], int]:
-    """What reads a number from `least` to `most`."""
+    """Makes a function that reads a number from `least` to `most`."""
     def read(word: str) -> int:
         if not re.fullmatch(r'\+?0*[0-9]{1,20}', word, re.ASCII) or not least <= int(word) <= most:
             raise argparse.ArgumentTypeError(f'{word!r} is not in {least}..={most}')
@@ -46,7 +46,7 @@ def number_to(most: int, least: int = 1) -> Callable[[str], int]:
 
 
 class Parser(argparse.ArgumentParser):
-    """A parser whose line about a word goes out as the other lines do."""
+    """A parser that prints its line about a word as the other lines are printed."""
 
     def error(self, message: str) -> NoReturn:
         line = ''.join(one if one == '\\' else shown_name(one) for one in message)
@@ -75,7 +75,7 @@ def parser() -> Parser:
     return made
 
 
-# What the options give that go with --trace.
+# The values of the options that belong to --trace.
 VIEWS = ('calls', 'forms', 'first', 'to', 'width', 'columns')
 
 
@@ -104,27 +104,27 @@ def views_of(given: argparse.Namespace) -> dict[str, Any]:
 
 
 def write_all(device: int, data: bytes) -> None:
-    """Writes all bytes. A write that a signal interrupted is made again."""
+    """Writes all bytes. Repeats a write that a signal interrupted."""
     left = memoryview(data)
     while left:
         left = left[os.write(device, left):]
 
 
 def say(line: str) -> None:
-    """Says a line on standard error, whose failure is ignored."""
+    """Prints a line on standard error; a failure of that is ignored."""
     with contextlib.suppress(OSError):
         write_all(2, line.encode(errors='surrogateescape') + b'\n')
 
 
 class Source:
-    """A script, by what reads so many bytes of it at most, and how far it was read."""
+    """A script, with the function that reads at most a number of its bytes, and how far it was read."""
 
     def __init__(self, name: str, read: Callable[[int], bytes], line: int = 1) -> None:
         self.name, self._read = shown_name(name), read
         self._reading = Reading(line)
 
     def give_more(self, session: Session) -> None:
-        """Reads once, and gives the session what there was, or the end of its input."""
+        """Reads once, and gives the session what was read, or the end of its input."""
         if data := self._read(CHUNK):
             self._reading.give(session, data)
         else:
@@ -137,7 +137,7 @@ class Source:
 
 @contextlib.contextmanager
 def opened(name: str) -> Iterator[Source]:
-    """The script in a file, behind a first line that begins with `#!`."""
+    """The script in a file, after a first line that begins with `#!`."""
     with open(name, 'rb') as file:
         if file.peek(2).startswith(b'#!'):
             file.readline()
@@ -150,7 +150,7 @@ def opened(name: str) -> Iterator[Source]:
 
 
 class Ending(NamedTuple):
-    """How a run ended: the status, the fault in words, and the account."""
+    """How a run ended: the status, the fault in words, and the report line."""
 
     status: int
     words: str
@@ -159,18 +159,19 @@ class Ending(NamedTuple):
 
 
 def need_of_read(session: Session) -> int:
-    """The cells that the next step needs, which reads, for what was read of its string so far."""
+    """The cells that the next step, which reads, needs for the part of its string that was read so far."""
     text = len(session.unread) if session.awaits == 'text' else 0
     return session.cells - session.parts.free - 1 + text
 
 
 def lines_of(trace: Trace) -> Iterator[bytes]:
-    """The lines of a run that is shown, as they go out."""
+    """The lines of a shown run, as they are written."""
     return (line.encode(errors='replace') + b'\n' for line in trace)
 
 
 def play(session: Session, source: Source, trace: Trace | None) -> Ending:
-    """Runs a script to its end, or shows it. Each print is out before the next step, and so before the next read."""
+    """Runs a script to its end, or shows it. Each output is written before the next step, and so before the next
+    read."""
     while True:
         try:
             for output in lines_of(trace) if trace else session.outputs():
@@ -189,7 +190,7 @@ def play(session: Session, source: Source, trace: Trace | None) -> Ending:
 
 
 def run_source(session: Session, source: Source, given: argparse.Namespace) -> int:
-    """Runs a script, or shows it, says how it ended, and gives the status."""
+    """Runs a script, or shows it, reports how it ended, and gives the status."""
     session.again()
     ending = play(session, source, session.trace(**views_of(given)) if given.trace else None)
     session.feed(most=0)
@@ -211,7 +212,7 @@ def run_file(session: Session, name: str, given: argparse.Namespace) -> int:
 
 
 def run_all(session: Session, given: argparse.Namespace) -> int:
-    """Runs the scripts, up to the first one that ends badly."""
+    """Runs the scripts, up to the first one that ends with a fault."""
     status = DONE
     for name in given.files:
         status = status or run_file(session, name, given)
@@ -226,13 +227,13 @@ def run_all(session: Session, given: argparse.Namespace) -> int:
 
 
 def script_in(file: io.BufferedReader) -> bytes:
-    """The script in a file. Of a first line that begins with `#!` the end stays, so that the others keep their
-    numbers."""
+    """The script in a file. Of a first line that begins with `#!` only the line end stays, so that the other lines keep
+    their numbers."""
     return re.sub(rb'\A#![^\n]*', b'', file.read())
 
 
 def check_script(name: str, script: bytes, cells: int, steps: int) -> int:
-    """Tells on standard output what is suspicious in a script, and gives the status."""
+    """Reports on standard output what is suspicious in a script, and gives the status."""
     found = check(script, cells, steps)
     lines = [f'line {each.line}, column {each.column}: {each.text}' for each in found.suspicions]
     lines += [found.fault] if found.fault else []
@@ -252,8 +253,8 @@ def check_file(name: str, cells: int, steps: int) -> int:
 
 
 def check_all(given: argparse.Namespace, cells: int, steps: int) -> int:
-    """Checks the scripts, each by itself, and gives the worst status: any other is worse than that something is
-    suspicious."""
+    """Checks the scripts, each separately, and gives the worst status: any other status is worse than the one for what
+    is suspicious."""
     statuses = [check_file(name, cells, steps) for name in given.files]
     statuses += [check_script('-e', os.fsencode(script), cells, steps) for script in given.scripts]
     if not statuses:
@@ -270,7 +271,7 @@ def is_typed() -> bool:
 
 
 def ask(prompt: str) -> bytes | None:
-    """The next line: from the terminal, behind a prompt, or from standard input. None at its end."""
+    """The next line: from the terminal, after a prompt, or from standard input. None at its end."""
     if not is_typed():
         return sys.stdin and sys.stdin.buffer.readline() or None
     try:
@@ -281,7 +282,7 @@ def ask(prompt: str) -> bytes | None:
 
 
 def give_line(session: Session, reading: Reading, line: bytes | None) -> None:
-    """Gives the session a line, or the end. The line feed right behind a meta character is dropped."""
+    """Gives the session a line, or the end. The line feed right after a meta character is dropped."""
     if line is None:
         session.end(most=0)
     elif line.endswith(bytes([session.meta, 10])):
@@ -291,7 +292,7 @@ def give_line(session: Session, reading: Reading, line: bytes | None) -> None:
 
 
 def run_line(session: Session) -> None:
-    """Runs what the session was given. At a terminal, what it prints ends with a line end."""
+    """Runs what the session was given. At a terminal a line end is added to its output if necessary."""
     output = b'\n'
     for output in session.outputs():
         write_all(1, output)
@@ -300,7 +301,7 @@ def run_line(session: Session) -> None:
 
 
 def take_line(session: Session, reading: Reading) -> None:
-    """Asks for a line and runs it. ^C drops what was typed of a string, and stops one that runs."""
+    """Reads a line and runs it. ^C discards an unfinished string, and stops a string that runs."""
     try:
         is_new = is_idle(session) and not session.unread
         give_line(session, reading, ask('> ' if is_new else '. '))
@@ -318,8 +319,8 @@ def say_fault(session: Session, reading: Reading, words: str) -> None:
 
 
 def hold(session: Session, reading: Reading) -> int:
-    """Takes lines to the end of standard input or `hl`, and gives the status. A fault drops the rest of its
-    line; it ends the session where no string can be read at all."""
+    """Reads lines to the end of standard input or `hl`, and gives the status. A fault drops the rest of its line; it
+    ends the session if no string can be read at all."""
     while True:
         session.feed()
         can_read = not session.fate.is_end
@@ -334,7 +335,7 @@ def hold(session: Session, reading: Reading) -> int:
 
 
 def converse(session: Session) -> int:
-    """A session at a terminal, in which forms stay. Gives the status."""
+    """A session at a terminal, which keeps the forms. Gives the status."""
     if is_typed() and isinstance(sys.stdin, io.TextIOWrapper):
         sys.stdin.reconfigure(errors='surrogateescape')
         with contextlib.suppress(ImportError):
@@ -352,7 +353,7 @@ def converse(session: Session) -> int:
 
 
 def perform(given: argparse.Namespace) -> int:
-    """Does what the words ask for, and gives the status."""
+    """Does what the options ask for, and gives the status."""
     cells, steps = given.cells or DEFAULT_CELLS, given.steps or DEFAULT_STEPS
     try:
         if given.check:

@@ -1,5 +1,5 @@
-/* The module trac_t64._engine: a machine of trac.h as an object of Python, with a block and buffers of its own. Written
- * by hand, and tested. It keeps to Python's stable ABI. The engine stands in the same unit, and no other library sees
+/* The module trac_t64._engine: a machine of trac.h as a Python object, with its own block and buffers. Written by hand,
+ * and tested. It uses only Python's stable ABI. The engine is in the same compilation unit, so no other library sees
  * it. */
 #define PY_SSIZE_T_CLEAN
 #include <Python.h>
@@ -9,15 +9,15 @@
 #include <stdlib.h>
 #include <time.h>
 
-/* The steps of a turn that keeps Python's lock; the seconds between two looks at signals, as a part of a second; the
- * least bytes of a buffer, and the most that it keeps when it is empty. */
+/* The steps of a turn that keeps Python's lock; the time between two tests for signals, as a part of a second; the
+ * smallest size of a buffer in bytes, and the greatest size that it keeps when it is empty. */
 enum { SHORT = 16, LOOKS = 20, LEAST = 4096, KEPT = 65536 };
 
-/* The fewest and the most steps of a turn, and the cells that its steps may go through, each of them through all that
- * there is: some 50 milliseconds. */
+/* The smallest and the greatest number of steps of a turn, and the number of cells that its steps may pass over if each
+ * passes over everything: about 50 milliseconds. */
 enum { FEWEST = 4, MOST = 4096, CELLS_A_TURN = 1 << 24 };
 
-/* ---- Bytes that come in at the end and leave at the front. */
+/* ---- Bytes that are appended at the end and removed at the front. */
 
 typedef struct {
     char *bytes;
@@ -28,10 +28,10 @@ static size_t length_of(const buffer *of) { return of->end - of->start; }
 
 static size_t room_in(const buffer *of) { return of->room - of->end; }
 
-/* The first byte; null where there is no memory yet. */
+/* The first byte; null if there is no memory yet. */
 static char *front_of(const buffer *of) { return of->bytes ? of->bytes + of->start : NULL; }
 
-/* Makes room for so many bytes more. Gives 0 where there is no memory for them, and nothing is changed. */
+/* Makes room for a number of further bytes. Gives 0, with nothing changed, if there is no memory for them. */
 static int reserve(buffer *to, size_t more) {
     const size_t length = length_of(to), most = (size_t)PY_SSIZE_T_MAX / 2;
     if (more <= room_in(to))
@@ -49,7 +49,7 @@ static int reserve(buffer *to, size_t more) {
     return 1;
 }
 
-/* Adds bytes. Gives 0 where there is no memory for them, and nothing is changed. */
+/* Adds bytes. Gives 0, with nothing changed, if there is no memory for them. */
 static int append(buffer *to, const void *bytes, size_t length) {
     if (!reserve(to, length))
         return 0;
@@ -59,7 +59,7 @@ static int append(buffer *to, const void *bytes, size_t length) {
     return 1;
 }
 
-/* Takes bytes from the front. An empty buffer keeps no great memory. */
+/* Removes bytes from the front. An empty buffer doesn't keep much memory. */
 static void discard(buffer *from, size_t length) {
     from->start += length;
     if (from->start < from->end)
@@ -80,18 +80,18 @@ static PyObject *bytes_of(const buffer *of) {
 typedef struct {
     PyObject_HEAD
     trac_machine machine;
-    trac_cell *block; /* null where the machine is closed */
+    trac_cell *block; /* null if the machine is closed */
     size_t cells;
     buffer input, output;
-    int has_ended; /* whether the input ends behind what the buffer holds */
+    int has_ended; /* whether the input ends after the content of the buffer */
     int is_busy;   /* whether a call uses it. Whoever asks meanwhile, as an object's finaliser does, is refused */
-    uint8_t *lent; /* for the lists of a step that is shown, and behind them for its lines; null before one was */
+    uint8_t *lent; /* for the lists of a shown step, and after them for its lines; null before the first */
     size_t lent_length; /* the bytes of each of the two */
     trac_report report;
     uint64_t consumed;
 } machine_object;
 
-/* Whether the machine can be used now; else the error is set. */
+/* Whether the machine can be used now; if not, the error is set. */
 static int is_usable(const machine_object *self) {
     if (!self->block) {
         PyErr_SetString(PyExc_ValueError, "the session is closed");
@@ -104,8 +104,8 @@ static int is_usable(const machine_object *self) {
     return 1;
 }
 
-/* Has the machine for one call, which makes objects of Python or runs its code, by a function that gives what the call
- * gives. */
+/* Reserves the machine for one call, which makes Python objects or runs Python code, made by a function; gives what the
+ * function gives. */
 static PyObject *used(machine_object *self, PyObject *(*by)(machine_object *)) {
     PyObject *result;
     if (!is_usable(self))
@@ -116,7 +116,7 @@ static PyObject *used(machine_object *self, PyObject *(*by)(machine_object *)) {
     return result;
 }
 
-/* Gives up the block and all other memory. */
+/* Frees the block and all other memory. */
 static void release(machine_object *self) {
     free(self->block);
     free(self->input.bytes);
@@ -209,7 +209,7 @@ static PyObject *machine_end(machine_object *self, PyObject *nothing) {
     Py_RETURN_NONE;
 }
 
-/* Makes at most so many steps, with so many bytes of room for what they print. Gives how many it made. */
+/* Makes at most `most` steps, with the given room for their output in bytes. Gives the number of steps made. */
 static uint64_t take_turn(machine_object *self, size_t room, uint64_t most) {
     const uint64_t before = self->report.steps;
     buffer *const input = &self->input, *const output = &self->output;
@@ -221,24 +221,24 @@ static uint64_t take_turn(machine_object *self, size_t room, uint64_t most) {
     return self->report.steps - before;
 }
 
-/* What is left to do, and whether steps stop where something was printed. */
+/* What is left to do, and whether to stop after a step that printed something. */
 typedef struct {
     uint64_t most;
     int stops_at_output;
 } task;
 
-/* Why steps were stopped: there are no more to do now; there is no memory for a print, whose step wasn't done; or it's
- * time to look at signals. */
+/* Why the steps stopped: there are no more to make now; there is no memory for a print, whose step wasn't done; or it
+ * is time to test for signals. */
 typedef enum { DONE, NO_MEMORY, TIME } stop;
 
-/* How many steps the next turn makes, so that it ends in time for a look at signals whatever they do. */
+/* How many steps the next turn makes, so that it ends in time for a test for signals, whatever the steps do. */
 static uint64_t steps_a_turn(const machine_object *self) {
     const size_t used = self->cells - trac_part(&self->machine, TRAC_PART_FREE) + length_of(&self->input);
     const size_t steps = CELLS_A_TURN / (used + 1);
     return steps < FEWEST ? FEWEST : steps > MOST ? MOST : steps;
 }
 
-/* Makes steps until they stop; it needs no lock of Python's. */
+/* Makes steps until they stop. Doesn't need Python's lock. */
 static stop make_steps(machine_object *self, task *of) {
     const clock_t begin = clock();
     while (of->most && clock() - begin <= CLOCKS_PER_SEC / LOOKS) {
@@ -258,7 +258,7 @@ static stop make_steps(machine_object *self, task *of) {
     return of->most ? TIME : DONE;
 }
 
-/* Makes steps, and looks at signals in between. Gives 0 where the error is set. */
+/* Makes steps, and tests for signals in between. Gives 0 if the error is set. */
 static int go_on(machine_object *self, task *of) {
     stop why;
     do {
@@ -317,7 +317,112 @@ static PyObject *machine_again(machine_object *self, PyObject *number) {
     Py_RETURN_NONE;
 }
 
-/* ---- What a machine shows of itself. */
+/* ---- Calls that the host answers, and forms from outside. */
+
+static PyObject *machine_stop_at_unknown(machine_object *self, PyObject *stops) {
+    const int is_on = PyObject_IsTrue(stops);
+    if (is_on < 0 || !is_usable(self))
+        return NULL;
+    (void)trac_stop_at_unknown(&self->machine, is_on);
+    Py_RETURN_NONE;
+}
+
+/* Calls a function of the host with its arguments. The machine can't be used meanwhile. */
+static PyObject *machine_call(machine_object *self, PyObject *arguments) {
+    PyObject *function, *given, *made;
+    if (!PyArg_ParseTuple(arguments, "OO!", &function, &PyTuple_Type, &given) || !is_usable(self))
+        return NULL;
+    self->is_busy = 1;
+    made = PyObject_CallObject(function, given);
+    self->is_busy = 0;
+    return made;
+}
+
+/* Sets the error if the engine refused the request. */
+static PyObject *was_refused(const char *reason) {
+    PyErr_SetString(PyExc_ValueError, reason);
+    return NULL;
+}
+
+static PyObject *machine_answer(machine_object *self, PyObject *arguments) {
+    const char *value;
+    Py_ssize_t length;
+    unsigned int how;
+    if (!PyArg_ParseTuple(arguments, "y#I", &value, &length, &how) || !is_usable(self))
+        return NULL;
+    const trac_report told = trac_answer(&self->machine, value, (size_t)length, how);
+    if (told.fate == TRAC_REFUSED)
+        return was_refused("no call waits for a value");
+    self->report = told;
+    Py_RETURN_NONE;
+}
+
+static PyObject *machine_define(machine_object *self, PyObject *arguments) {
+    const char *name, *codes;
+    Py_ssize_t name_length, length, pointer;
+    if (!PyArg_ParseTuple(arguments, "y#y#n", &name, &name_length, &codes, &length, &pointer) || !is_usable(self))
+        return NULL;
+    const size_t count = (size_t)length / sizeof(uint32_t);
+    uint32_t *const copy = (uint32_t *)malloc(count ? count * sizeof(uint32_t) : 1);
+    if (!copy)
+        return PyErr_NoMemory();
+    memcpy(copy, codes, count * sizeof(uint32_t));
+    const uint32_t refused = trac_define(&self->machine, name, (size_t)name_length, copy, count, (size_t)pointer);
+    free(copy);
+    if (refused)
+        return was_refused("the form does not fit, or an item or the pointer is out of range");
+    Py_RETURN_NONE;
+}
+
+static PyObject *machine_delete(machine_object *self, PyObject *name) {
+    char *bytes;
+    Py_ssize_t length;
+    if (!is_usable(self) || PyBytes_AsStringAndSize(name, &bytes, &length) < 0)
+        return NULL;
+    return PyBool_FromLong(trac_delete(&self->machine, bytes, (size_t)length) == 0);
+}
+
+static PyObject *machine_delete_all(machine_object *self, PyObject *nothing) {
+    (void)nothing;
+    if (!is_usable(self))
+        return NULL;
+    (void)trac_delete_all(&self->machine);
+    Py_RETURN_NONE;
+}
+
+static PyObject *machine_save(machine_object *self, PyObject *nothing) {
+    (void)nothing;
+    if (!is_usable(self))
+        return NULL;
+    const size_t length = trac_save(&self->machine, NULL, 0);
+    self->is_busy = 1;
+    PyObject *const image = PyBytes_FromStringAndSize(NULL, (Py_ssize_t)length);
+    if (image)
+        (void)trac_save(&self->machine, PyBytes_AsString(image), length);
+    self->is_busy = 0;
+    return image;
+}
+
+static PyObject *machine_load(machine_object *self, PyObject *image) {
+    char *bytes;
+    Py_ssize_t length;
+    if (PyBytes_AsStringAndSize(image, &bytes, &length) < 0 || !is_usable(self))
+        return NULL;
+    if (trac_load(&self->machine, bytes, (size_t)length))
+        return was_refused("these bytes are no image of forms, or its forms don't fit into the workspace");
+    Py_RETURN_NONE;
+}
+
+static PyObject *machine_set_meta(machine_object *self, PyObject *number) {
+    const unsigned long byte = PyLong_AsUnsignedLong(number);
+    if ((byte == (unsigned long)-1 && PyErr_Occurred()) || !is_usable(self))
+        return NULL;
+    if (byte > 255 || trac_set_meta(&self->machine, (uint32_t)byte))
+        return was_refused("the meta character must be a byte");
+    Py_RETURN_NONE;
+}
+
+/* ---- What a machine shows. */
 
 static PyObject *reported(machine_object *self) {
     return Py_BuildValue("sKIK", trac_fate_name(self->report.fate), (unsigned long long)self->report.steps,
@@ -350,7 +455,7 @@ static PyObject *filled_by_form(const trac_form *form, size_t (*fill)(const trac
     return bytes;
 }
 
-/* New bytes with room for so many codes, each a number of 32 bits. */
+/* New bytes with room for a number of codes, each with 32 bits. */
 static PyObject *room_for_codes(size_t count) {
     return PyBytes_FromStringAndSize(NULL, (Py_ssize_t)(count * sizeof(uint32_t)));
 }
@@ -365,7 +470,7 @@ static PyObject *codes_of_form(const trac_form *form) {
     return bytes;
 }
 
-/* Part of a string from a place on, at most so many codes, by a function of trac.h. */
+/* A part of a string from a place on, with at most `most` codes, by a function of trac.h. */
 static PyObject *codes_of_part(machine_object *self, size_t (*fill)(const trac_machine *, size_t, uint32_t *, size_t),
                                Py_ssize_t start, Py_ssize_t most) {
     if (!is_usable(self))
@@ -393,7 +498,7 @@ static PyObject *form_tuple(const trac_form *form) {
     return made;
 }
 
-/* Objects are made in between, so the collector may run finalisers, which can't use the machine meanwhile. */
+/* Objects are made during this, so the collector may run finalisers; these can't use the machine meanwhile. */
 static PyObject *forms(machine_object *self) {
     trac_form form = TRAC_NO_FORM;
     PyObject *const list = PyList_New(0);
@@ -444,7 +549,7 @@ static PyObject *argument(const machine_object *self, size_t which) {
     return bytes;
 }
 
-/* All of them. Each is looked for from the first one on, so where they are many a signal can stop this. */
+/* All of these arguments. Each is searched for from the first one on, so if there are many, a signal can stop this. */
 static PyObject *all_arguments(machine_object *self) {
     const size_t count = trac_argument_count(&self->machine);
     PyObject *const tuple = PyTuple_New((Py_ssize_t)count);
@@ -513,10 +618,10 @@ static PyObject *machine_take_peak(machine_object *self, PyObject *nothing) {
     return is_usable(self) ? PyLong_FromUnsignedLong(trac_take_peak(&self->machine)) : NULL;
 }
 
-/* ---- A run that is shown. */
+/* ---- A shown run. */
 
-/* Has memory for the lists and the lines of a step, as much as a step can need: it costs nothing as long as it isn't
- * used. Where there is less, a step may find too little. Gives 0 where there is hardly any. */
+/* Allocates memory for the lists and the lines of a step, as much as a step can need: memory that isn't used costs
+ * nothing. If the system gives less, a step may run out of it. Gives 0 if there is hardly any. */
 static int has_lent(machine_object *self) {
     const size_t least = (size_t)1 << 20;
     if (self->lent)
@@ -527,7 +632,7 @@ static int has_lent(machine_object *self) {
     return self->lent != NULL;
 }
 
-/* The words of a trace before its first step: what is shown. */
+/* The trace's words of memory before its first step: what to show. */
 static PyObject *module_trace(PyObject *module, PyObject *args) {
     trac_trace trace = TRAC_NO_TRACE;
     unsigned long long from, to;
@@ -545,7 +650,7 @@ static PyObject *module_trace(PyObject *module, PyObject *args) {
     return PyBytes_FromStringAndSize((const char *)&trace, sizeof trace);
 }
 
-/* Makes a step that is shown. Gives 0 where there is no memory; the step may have been made then, without its lines. */
+/* Makes a shown step. Gives 0 if there is no memory; then the step may have been made, without its lines. */
 static int show_step(machine_object *self, trac_trace *trace) {
     buffer *const input = &self->input, *const output = &self->output;
     do {
@@ -561,7 +666,7 @@ static int show_step(machine_object *self, trac_trace *trace) {
         if (told.fate == TRAC_NO_MEMORY) {
             self->report.steps = told.steps;
             free(self->lent);
-            self->lent = NULL; /* the next step may find more */
+            self->lent = NULL; /* the next step may get more */
             return 0;
         }
         self->report = told;
@@ -569,7 +674,7 @@ static int show_step(machine_object *self, trac_trace *trace) {
     return 1;
 }
 
-/* Makes a step by the words of a trace. Gives the words behind it, and the lines; none where there is no memory. */
+/* Makes a step with the words of a trace. Gives the words after it, and the lines; none if there is no memory. */
 static PyObject *machine_show(machine_object *self, PyObject *words) {
     trac_trace trace;
     char *bytes;
@@ -581,7 +686,7 @@ static PyObject *machine_show(machine_object *self, PyObject *words) {
     memcpy(&trace, bytes, sizeof trace);
     const int is_shown = show_step(self, &trace);
     const char *const lines = is_shown ? (const char *)self->lent + self->lent_length : NULL;
-    /* Objects are made, so the collector may run finalisers, which can't use the machine meanwhile. */
+    /* Objects are made, so the collector may run finalisers; these can't use the machine meanwhile. */
     self->is_busy = 1;
     PyObject *const shown = Py_BuildValue("y#y#", (const char *)&trace, (Py_ssize_t)sizeof trace, lines,
                                           (Py_ssize_t)trace.lines);
@@ -591,10 +696,10 @@ static PyObject *machine_show(machine_object *self, PyObject *words) {
 
 /* ---- What is suspicious in a script. */
 
-/* The bytes for the lists of a check, and those for its lines, that are tried first. */
+/* The initial number of bytes for the lists of a check, and for its lines. */
 enum { LEAST_LISTS = 1 << 20, LEAST_LINES = 1 << 16 };
 
-/* What a check takes and gives. */
+/* The input and the result of a check. */
 typedef struct {
     Py_buffer script;
     trac_cell *block;
@@ -604,15 +709,15 @@ typedef struct {
     trac_report report;
 } checking;
 
-/* Has other memory at a place, which holds nothing. Gives 0 where there is none. */
+/* Replaces the memory at a place by other memory, without its content. Gives 0 if there is none. */
 static int remade(void **place, size_t length) {
     free(*place);
     *place = malloc(length);
     return *place != NULL;
 }
 
-/* Checks with memory for so many bytes of lists and of lines, or for more where it has to. Gives 0 where there is no
- * memory. */
+/* Checks with memory for the given number of bytes of lists and of lines, or for more if necessary. Gives 0 if there is
+ * no memory. */
 static int checked(checking *of, size_t lists, size_t lines) {
     int is_made = remade(&of->lists, lists) && remade(&of->lines, lines);
     while (is_made) {
@@ -667,6 +772,16 @@ static PyMethodDef machine_methods[] = {
     METHOD(go, METH_VARARGS, "Makes at most so many steps, up to the next print where the second argument is true."),
     METHOD(take, METH_NOARGS, "Takes what was printed."),
     METHOD(show, METH_O, "Makes a step by the words of a trace. Gives the words behind it, and its lines."),
+    METHOD(stop_at_unknown, METH_O, "Says whether turns stop before a call whose name is no function."),
+    METHOD(call, METH_VARARGS, "Calls a function with a tuple of arguments, while the machine can't be used."),
+    METHOD(answer, METH_VARARGS,
+           "Makes the step of a call whose name is no function, with a value; how it is delivered."),
+    METHOD(define, METH_VARARGS, "Makes a form of a name, items as numbers of 32 bits, and a pointer."),
+    METHOD(delete, METH_O, "Removes the form of a name, and says whether there was one."),
+    METHOD(delete_all, METH_NOARGS, "Removes all forms."),
+    METHOD(save, METH_NOARGS, "The image of the forms and the meta character."),
+    METHOD(load, METH_O, "Takes an image in the place of the forms and the meta character."),
+    METHOD(set_meta, METH_O, "Makes a byte the meta character."),
     METHOD(again, METH_O, "Begins a new run with an allowance of so many steps; drops the input."),
     METHOD(take_peak, METH_NOARGS, "The peak in cells, which then counts from 0 again."),
     METHOD(report, METH_NOARGS, "The fate in words, the steps, the peak in cells, and the bytes consumed."),

@@ -9,7 +9,7 @@ _GIVES = ('nothing', 'body', 'part')
 
 
 class Function(NamedTuple):
-    """A function: how it is called, what it is, and what is true of every call of it."""
+    """A function: its name, a call, a description, and what is true of all its calls."""
     name: str
     call: str
     """A call of it without the marks, with letters for arguments: `cs,N,Z`."""
@@ -18,17 +18,18 @@ class Function(NamedTuple):
     sentence: str
     """What it does, in one sentence with the letters of its call."""
     group: str
-    """The heading under which the manual tells of it."""
+    """The heading under which the manual describes it."""
     uses: int | None
-    """How many arguments behind its name it uses; None if all."""
+    """How many arguments after its name it uses; None if all."""
     forms: str
-    """The forms that a call concerns: `none`, the `first` argument's, `each` argument's, or `all`."""
+    """The forms that a call concerns: `none`, the form that the `first` argument names, those that `each` argument
+    names, or `all`."""
     needs_form: bool
-    """Whether a call does nothing if no form has the name that its first argument is."""
+    """Whether a call does nothing if its first argument is the name of no form."""
     changes_forms: bool
     """Whether a call can make, change or remove the forms that it concerns."""
     gives: str
-    """What of a form is its value: `nothing`, its `body` from the pointer on, or a `part` of it."""
+    """Which part of a form is its value: `nothing`, its `body` from the pointer on, or a `part` of it."""
     default_argument: int | None
     """Which argument is its default value; None if it has none."""
     chooses: bool
@@ -52,7 +53,7 @@ def _function(texts: tuple[str, str, str, str, str], facts: tuple[int, ...]) -> 
 
 
 FUNCTIONS = {function.name: function for function in (_function(*row) for row in _engine.functions())}
-"""Each function by its name in letters of lower case, in the order of the manual."""
+"""Each function by its name in lower case, in the order of the manual."""
 
 
 def names_a_form(function: str) -> bool:

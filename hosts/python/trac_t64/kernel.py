@@ -2,7 +2,7 @@
 
 A cell is a script: its text is the input of a run in a session whose forms stay from one cell to the
 next. What the script reads behind the cell's text is asked for. Lines at the head of a cell that begin
-with a percent sign are commands to the kernel.
+with a percent sign are commands to the kernel. Behind `%function NAME` the cell is Python.
 """
 from __future__ import annotations
 
@@ -15,9 +15,10 @@ import re
 import sys
 import tempfile
 from collections.abc import Callable, Iterable, Sequence
-from typing import Any
+from typing import Any, NamedTuple, cast
 
 from ._engine import MOST_CELLS, VERSION
+from .cell_function import CallFailed, CellFunction, NotPython
 from .functions import FUNCTIONS, names_a_form
 from .reading import Reading, fault_words, is_idle
 from .session import DEFAULT_CELLS, DEFAULT_STEPS, MOST_STEPS, Fate, Session, Trace, check, shown
@@ -35,18 +36,24 @@ NAME = 'trac_t64'
 SHOWN_STEPS = 100
 COMMANDS = {
     '%forms': 'a table of the forms',
-    '%cells N': 'a new session with so many cells',
+    '%cells N': 'a new session with so many cells, without forms and functions of yours',
     '%steps N': 'so many steps are allowed to each cell',
-    '%reset': 'a new session, without forms',
+    '%reset': 'a new session, without forms and functions of yours',
     '%trace [N]': 'the first N steps of the script below, as lines',
     '%trace calls [N]': 'the calls that these steps perform',
     '%trace forms [N]': 'the forms that these steps change',
-    '%check': 'a table of what is suspicious in the script below, which is run by itself, without forms',
+    '%check': 'a table of what is suspicious in the script below, which is run by itself, without forms and functions '
+              'of yours',
+    '%function NAME': 'a function of yours, for calls of NAME, whose body is the Python below: arguments has what '
+                      'stands behind the name, as bytes, and the value is what it returns, bytes, a str or None; '
+                      'without Python it is removed',
+    '%function': 'your functions, as cells that make them',
     '%help': 'these commands, and the functions',
 }
 STYLE = '<style>.trac th, .trac td { text-align: left !important; white-space: pre }</style>'
 FUNCTION_BEFORE = re.compile(r'#\(([A-Za-z]*)$')
 FORM_BEFORE = re.compile(r'#\(([A-Za-z]+),([^#(),]*)$')
+MAKES_FUNCTION = re.compile(r'%function\s+\S')
 COMMAND_BEFORE = re.compile(r'(?:^|\n)(%\w*)$')
 WORD_AROUND = re.compile(r'[A-Za-z]*$')
 
@@ -68,11 +75,24 @@ def number_of(command: str, words: Sequence[str], most: int) -> int:
     return int(words[0])
 
 
-def parted(code: str) -> tuple[list[str], int, str]:
-    """The commands at the head of a cell, the number of the line behind them, and the script."""
+class Cell(NamedTuple):
+    """A cell: the commands at its head, and behind them a script; or the Python of a function, which the last command
+    names. `line` is the number of the line in which that text begins."""
+
+    commands: list[str]
+    makes: str | None
+    line: int
+    text: str
+
+
+def parted(code: str) -> Cell:
+    """The parts of a cell."""
     lines = code.split('\n')
     count = next((k for k, line in enumerate(lines) if not line.startswith('%')), len(lines))
-    return lines[:count], count + 1, '\n'.join(lines[count:])
+    made = next((k for k, line in enumerate(lines[:count]) if MAKES_FUNCTION.match(line)), None)
+    if made is None:
+        return Cell(lines[:count], None, count + 1, '\n'.join(lines[count:]))
+    return Cell(lines[:made], lines[made], made + 2, '\n'.join(lines[made + 1:]))
 
 
 def as_html(head: Sequence[str], rows: Table) -> str:
@@ -100,12 +120,13 @@ def form_names(session: Session) -> list[str]:
     return [name for name in names if '\ufffd' not in name]
 
 
-def completions(code: str, names: Iterable[str]) -> tuple[list[str], int]:
-    """What can stand at the end of a text, which begins at the place that is given."""
+def completions(code: str, names: Iterable[str], functions: Iterable[str]) -> tuple[list[str], int]:
+    """What can stand at the end of a text, which begins at the place that is given: a command, a function of the
+    language or one of these, or one of these names of forms."""
     if found := COMMAND_BEFORE.search(code):
         words: Iterable[str] = (command.split()[0] for command in COMMANDS)
     elif found := FUNCTION_BEFORE.search(code):
-        words = FUNCTIONS
+        words = [*FUNCTIONS, *functions]
     elif (found := FORM_BEFORE.search(code)) and names_a_form(found[1]):
         words = names
     else:
@@ -147,6 +168,8 @@ class TracKernel(Kernel):
         self._lines: list[str] = []
         # whether a cell's script is checked
         self._is_checked = False
+        # the global names of the functions that cells make
+        self._names: dict[str, Any] = {}
 
     # ---- What is shown.
 
@@ -195,11 +218,36 @@ class TracKernel(Kernel):
             self._open(self._session.cells)
         elif command == '%forms' and not words:
             self._send_table(('name', 'form', 'pointer'), forms_table(self._session))
+        elif command == '%function' and not words:
+            self._send_lines([f'%function {name}\n{each.body}' for name, each in self._functions().items()])
         elif command == '%help' and not words:
             self._send_table(('command', ''), list(COMMANDS.items()))
             self._send_table(('call', ''), [(f'#({each.call})', each.sentence) for each in FUNCTIONS.values()])
         else:
             raise Fault('command', f'{line}: there is no such command; there are ' + ', '.join(COMMANDS))
+
+    # ---- Functions of the host.
+
+    def _functions(self) -> dict[str, CellFunction]:
+        """Those of the session, all of which are made by cells."""
+        return cast(dict[str, CellFunction], self._session.functions)
+
+    def _make_function(self, command: str, line: int, body: str) -> None:
+        """Makes the function that a command names, of the Python that begins in this line of its cell, or removes it
+        where there is none."""
+        _, name, *more = command.split()
+        if more:
+            raise Fault('command', '%function wants one name, or none')
+        if name.lower() in FUNCTIONS:
+            raise Fault('command', f'{name} is a function of the language, which is never asked of you')
+        if not body.strip():
+            if not self._functions().pop(name, None):
+                raise Fault('command', f'there is no function {name} to remove, and no Python below that makes it')
+            return
+        try:
+            self._functions()[name] = CellFunction(name, body, line, self._names)
+        except NotPython as wrong:
+            raise Fault('function', f'line {wrong.line}: function {name}: {wrong.reason}') from None
 
     # ---- Scripts.
 
@@ -231,10 +279,15 @@ class TracKernel(Kernel):
         session.again(self._steps)
         trace = session.trace(**self._view)
         reading.give(session, script.encode(errors='replace'))
-        self._run_on(trace, printer)
-        while session.fate is Fate.WANTS_INPUT:
-            self._give_more(reading)
+        try:
             self._run_on(trace, printer)
+            while session.fate is Fate.WANTS_INPUT:
+                self._give_more(reading)
+                self._run_on(trace, printer)
+        except CallFailed as failed:
+            at = 'line {}, column {}'.format(*reading.place(session))
+            raise Fault('function', f'{at}: function {failed.name}, line {failed.line} of its cell: '
+                                    f'{failed.reason}') from None
         if words := fault_words(session):
             at = 'line {}, column {}'.format(*reading.place(session))
             raise Fault(session.fate.value, f'{at}: {words}')
@@ -251,16 +304,19 @@ class TracKernel(Kernel):
     def _run_cell(self, code: str) -> None:
         """Runs the commands and the script of a cell, or checks the script, and shows what it asked for."""
         self._view, self._shown_steps, self._lines, self._is_checked = {}, 0, [], False
-        commands, line, script = parted(code)
-        for command in commands:
+        cell = parted(code)
+        for command in cell.commands:
             self._command(command)
+        if cell.makes:
+            self._make_function(cell.makes, cell.line, cell.text)
+            return
         if self._is_checked:
-            self._check_script(script, line)
+            self._check_script(cell.text, cell.line)
             return
         printer = Printer(self._send_text)
         try:
-            if script.strip():
-                self._run_script(script, line, printer)
+            if cell.text.strip():
+                self._run_script(cell.text, cell.line, printer)
         finally:
             printer.put(b'', is_last=True)
             if self._lines:
@@ -286,7 +342,7 @@ class TracKernel(Kernel):
 
     def do_complete(self, code: str, cursor_pos: int) -> dict[str, Any]:
         """Functions behind `#(`, and forms behind a function that takes one."""
-        matches, begin = completions(code[:cursor_pos], form_names(self._session))
+        matches, begin = completions(code[:cursor_pos], form_names(self._session), self._functions())
         return {'status': 'ok', 'matches': matches, 'cursor_start': begin, 'cursor_end': cursor_pos, 'metadata': {}}
 
     def do_inspect(
@@ -300,9 +356,12 @@ class TracKernel(Kernel):
         return {'status': 'ok', 'found': bool(data), 'data': data, 'metadata': {}}
 
     def do_is_complete(self, code: str) -> dict[str, str]:
-        """A script is complete behind the meta character, and commands are."""
-        _, _, script = parted(code)
-        is_done = not script.strip() or script.rstrip().encode().endswith(bytes([self._session.meta]))
+        """A script is complete behind the meta character, commands are, and Python is behind an empty line."""
+        cell = parted(code)
+        if cell.makes:
+            is_done = not code.rpartition('\n')[2].strip()
+        else:
+            is_done = not cell.text.strip() or cell.text.rstrip().encode().endswith(bytes([self._session.meta]))
         return {'status': 'complete'} if is_done else {'status': 'incomplete', 'indent': ''}
 
 

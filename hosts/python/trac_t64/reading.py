@@ -1,20 +1,20 @@
-"""How far a session has read what it was given, and how it says that a run ended badly."""
+"""How far a session has read its input, and how it reports that a run ended with a fault."""
 from __future__ import annotations
 
 from .session import ACTIVE_CALL, COMMA_MARK, Fate, Session
 
-# What stands in the two strings where the idling procedure reads the next string.
+# The two strings when the idling procedure reads the next string.
 IDLE_NEUTRAL = (ACTIVE_CALL, *b'ps', COMMA_MARK, ACTIVE_CALL, *b'rs')
 IDLE_ACTIVE = b'))'
 
 
 def is_idle(session: Session) -> bool:
-    """Whether the session waits for a next string, and not within a script for what that reads."""
+    """Whether the session waits for the next string, and not for what a script reads."""
     return session.active == IDLE_ACTIVE and session.neutral == IDLE_NEUTRAL
 
 
 def fault_words(session: Session) -> str:
-    """What ended the run, in the words of `trac`; nothing where it halted or its input ended."""
+    """The fault that ended the run, in the words of `trac`; empty if it halted or its input ended."""
     if session.fate is Fate.WORKSPACE:
         return f'workspace of {session.cells} cells full at step {session.steps + 1}'
     if session.fate is Fate.STEPS:
@@ -23,7 +23,7 @@ def fault_words(session: Session) -> str:
 
 
 class Reading:
-    """The place, in a text that a session is given, of the first byte that it didn't read."""
+    """The place of the first byte that a session didn't read, in the text that it is given."""
 
     def __init__(self, line: int = 1) -> None:
         self._line, self._column = line, 1
@@ -31,14 +31,14 @@ class Reading:
         self._ahead = self._dropped = b''
 
     def give(self, session: Session, data: bytes, dropped: bytes = b'') -> None:
-        """Gives the session more of the text, and makes no step. What is dropped stands behind it."""
+        """Gives the session more of the text, and makes no step. Dropped text follows it."""
         self._pass(session.unread)
         self._move_on(self._dropped)
         self._ahead, self._dropped = self._ahead + data, dropped
         session.feed(data, most=0)
 
     def begin_again(self, session: Session) -> None:
-        """Has the session begin a new run, behind all that it was given."""
+        """Makes the session begin a new run, after everything that it was given."""
         self._pass(b'')
         session.again()
 

@@ -22,6 +22,7 @@ mod trac_functions;
 #[path = "trac_laws/mod.rs"]
 pub mod laws;
 mod trac_core;
+mod trac_image;
 
 mod block;
 mod shown;
@@ -31,14 +32,16 @@ use values as trac_values;
 
 pub use block::{BlockTooLong, MOST_CELLS};
 pub use trac_core::{
-    Awaits, CallMark, Machine, NextCall, OpenCall, Progress, ScanningRule, display_len, is_layout, show_form,
+    Awaits, CallMark, Delivery, Machine, NextCall, OpenCall, Progress, Refused, ScanningRule, display_len, is_layout,
+    show_form,
 };
 #[cfg(feature = "std")]
 pub use trac_devices::{
     BufferedReader, BufferedWriter, Input, Output, ReadSource, RetryingReader, RetryingWriter, TRIES, WriteSink,
 };
 pub use trac_devices::{Characters, Next, Sink, SinkFailed, SliceSink, SliceSource, Source, write_characters};
-pub use trac_forms::{Forms, StoredForm, Work};
+pub use trac_forms::{Body, Forms, StoredForm, TextBody, Work};
+pub use trac_image::{load, save};
 pub use trac_language::{
     Concerned, Facts, Fate, Function, Given, Group, Item, Mode, Report, Traits, facts_of, function_at, function_count,
 };
@@ -46,11 +49,5 @@ pub use trac_space::{Cell, Neutral};
 
 #[cfg(test)]
 mod stand_in;
-#[cfg(all(test, feature = "std"))]
-mod trac_device_tests;
-#[cfg(test)]
-mod trac_session_tests;
-#[cfg(test)]
-mod trac_space_tests;
 #[cfg(test)]
 mod trac_tests;

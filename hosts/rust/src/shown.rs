@@ -4,7 +4,7 @@
 use crate::{
     BufferedReader, BufferedWriter, Input, Output, ReadSource, RetryingReader, RetryingWriter, WriteSink,
 };
-use crate::{Characters, Forms, Machine, SinkFailed, SliceSink, SliceSource, StoredForm, Work};
+use crate::{Characters, Forms, Machine, SinkFailed, SliceSink, SliceSource, StoredForm, TextBody, Work};
 use core::error::Error;
 use core::fmt::{Debug, Display, Formatter, Result};
 
@@ -34,6 +34,7 @@ debug! {
     Work, Work<'_>, room used;
     Forms, Forms<'_>, len;
     StoredForm, StoredForm<'_>, body_len pointer;
+    TextBody, TextBody<'_>,;
     Characters, Characters<'_>, len;
     SliceSource, SliceSource<'_>,;
     SliceSink, SliceSink<'_>,;

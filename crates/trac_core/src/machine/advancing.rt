@@ -1,15 +1,16 @@
-//! Steps that need no device, as many as follow one another.
-ghost use Rattle.std.specs.Prelude.{◌≡◌, ◌+◌, ◌<◌, ◌≤◌, ◌^◌, None, Some, IsSome};
+//! Steps, as many as follow one another.
+ghost use Rattle.std.specs.Prelude.{◌≡◌, ◌+◌, ◌<◌, ◌≤◌, ◌^◌, Bool, None, Some, IsSome};
 ghost use Rattle.trac_forms.specs.Contents.{IsSound};
 ghost use Rattle.trac_functions.specs.Calls.{KeepsRoom};
 ghost use Rattle.trac_core.specs.Machine.{KeepsLimits};
-ghost use Rattle.trac_core.specs.StepsInRow.{running, IsPlainFrom};
+ghost use Rattle.trac_core.specs.StepsInRow.{turning, IsPlainFrom};
 ghost use Rattle.trac_core.specs.Advancing.{Advanced, advanced_to};
+ghost use Rattle.trac_core.specs.Driving.{Driven, standing};
 ghost use Rattle.trac_core.specs.Session.{next_function};
 
 use super::{Counters, Machine, ended};
-use crate::call::perform_pending_alone;
 use crate::idling::{IDLING_STEPS, begin_idling, may_begin_idling};
+use crate::performer::{Alone, Performer};
 use crate::run_hints::RunHints;
 use crate::scan::{Pending, scan_steps};
 use trac_forms::Work;
@@ -20,8 +21,8 @@ use trac_language::{Fate, Function, Report};
 pub struct Progress {
     /// The steps that were done and after which the run went on.
     pub done: u64,
-    /// The function of the call that it stopped before, which reads or prints. `None` where it
-    /// stopped for another reason.
+    /// The function of the call that it stopped before, which reads or prints. `None` where it stopped
+    /// before a call of no function, or for another reason.
     pub next: Option<Function>,
 }
 
@@ -39,9 +40,10 @@ pub(super) struct Advance {
 
 impl<'a> Machine<'a> {
     /// Makes at most `most` steps, as `step` does, but none that needs a device: it stops before a
-    /// call of `rs`, `rc` or `pf`, and before one of `ps` whose text isn't null. Gives how many steps were done
-    /// after which the run went on. They are fewer than `most` only if it stopped there, the allowance
-    /// is used up, or the next step ended the run, by `hl` or since it needs more than the room. With
+    /// call of `rs`, `rc` or `pf`, before one of `ps` whose text isn't null, and before one whose name is no
+    /// function if `stop_at_unknown` asked for that. Gives how many steps were done after which the run went on.
+    /// They are fewer than `most` only if it stopped there, the allowance is used up, or the next step
+    /// ended the run, by `hl` or since it needs more than the room. With
     /// the allowance used up, the next call of `step` ends the run. Where the run is over before,
     /// nothing is done. This processor's own choice.
     pub fn advance(&mut self, most: u64) -> Progress
@@ -55,6 +57,7 @@ impl<'a> Machine<'a> {
         // the limits stay, and are kept
         ensures room { self.new.room ≡ self.old.room }
         ensures allowance { self.new.allowance ≡ self.old.allowance }
+        ensures stops { self.new.stops ≡ self.old.stops }
         ensures limits { KeepsLimits self.new }
     {
         if self.fate.is_some() {
@@ -63,12 +66,48 @@ impl<'a> Machine<'a> {
                 next: None,
             };
         }
+        let performer = Alone { stops: self.stops };
+        self.drive(performer, most, &mut (), &mut ())
+    }
+
+    /// Makes at most `most` steps of a run that isn't over, whose calls this performer performs. They are
+    /// fewer only if it declined a call, the allowance is used up, or the next step ended the run.
+    #[inline(always)]
+    pub(super) fn drive<I, O, P: Performer<I, O>>(
+        &mut self,
+        performer: P,
+        most: u64,
+        source: &mut I,
+        sink: &mut O,
+    ) -> Progress
+        requires going { self.old.fate ≡ None }
+        requires ready { P.ready source.old sink.old }
+        ensures driven { Driven (P.performed performer) (P.declines performer) most result.done
+            (standing self.old source.old sink.old) (standing self.new source.new sink.new) }
+        ensures few { result.done ≤ most }
+        ensures next { result.done < most → result.next ≡ next_function self.new }
+        ensures counts { self.new.fate ≡ None → self.new.steps ≡ self.old.steps + result.done }
+        ensures room { self.new.room ≡ self.old.room }
+        ensures allowance { self.new.allowance ≡ self.old.allowance }
+        ensures stops { self.new.stops ≡ self.old.stops }
+        ensures limits { KeepsLimits self.new }
+    {
         let at = Counters {
             allowance: self.allowance,
             steps: self.steps,
             peak: self.peak,
         };
-        let to = go_alone(&mut self.work, &mut self.meta, self.plain, at, most);
+        let plain = self.plain;
+        let to = go_on(
+            &mut self.work,
+            &mut self.meta,
+            plain,
+            at,
+            most,
+            performer,
+            source,
+            sink,
+        );
         self.steps = to.steps;
         self.peak = to.peak;
         self.fate = to.fate;
@@ -77,20 +116,33 @@ impl<'a> Machine<'a> {
     }
 }
 
-/// Makes at most `most` steps that need no device, of a run that isn't over and has these counters.
-/// They are single values here, so that they need not stand in memory. From the plain place on no
+/// Makes at most `most` steps of a run that isn't over and has these counters. They are single values
+/// here, and no part of a machine, so that they need not stand in memory. From the plain place on no
 /// comma mark stands in the neutral string.
 #[inline(never)]
-fn go_alone(work: &mut Work, meta: &mut u8, plain: u32, at: Counters, most: u64) -> Advance
+fn go_on<I, O, P: Performer<I, O>>(
+    work: &mut Work,
+    meta: &mut u8,
+    plain: u32,
+    at: Counters,
+    most: u64,
+    performer: P,
+    source: &mut I,
+    sink: &mut O,
+) -> Advance
     requires sound { IsSound work.old }
     requires plain { IsPlainFrom plain work.old.neutral }
     requires steps { at.steps ≤ at.allowance }
     requires peak { at.peak ≤ work.old.room }
-    ensures advanced { let old = running work.old meta.old at in
-        Advanced most result.progress.done old (advanced_to work.new meta.new at result) }
+    requires ready { P.ready source.old sink.old }
+    ensures driven { (stops : Bool) →
+        Driven (P.performed performer) (P.declines performer) most result.progress.done
+        (standing (turning stops work.old meta.old at) source.old sink.old)
+        (standing (advanced_to stops work.new meta.new at result) source.new sink.new) }
     ensures few { result.progress.done ≤ most }
-    ensures next { result.progress.done < most →
-        result.progress.next ≡ next_function (advanced_to work.new meta.new at result) }
+    ensures next { (stops : Bool) → result.progress.done < most →
+        result.progress.next ≡ next_function (advanced_to stops work.new meta.new at result) }
+    ensures counts { result.fate ≡ None → result.steps ≡ at.steps + result.progress.done }
     ensures plain { IsPlainFrom result.plain work.new.neutral }
     ensures steps { result.steps ≤ at.allowance }
     ensures peak { result.peak ≤ work.old.room }
@@ -99,6 +151,7 @@ fn go_alone(work: &mut Work, meta: &mut u8, plain: u32, at: Counters, most: u64)
     let reach = most.min(at.allowance - at.steps);
     let mut left = reach;
     let mut peak = at.peak;
+    // The cells of the first step since a call: those that perform none need no more than it does.
     let mut need = work.used();
     let mut hints = RunHints::new(plain);
     while left > 0 {
@@ -114,7 +167,7 @@ fn go_alone(work: &mut Work, meta: &mut u8, plain: u32, at: Counters, most: u64)
                 hints = RunHints::new(work.neutral_len());
             }
             Err(pending) => {
-                let last = match perform_pending_alone(work, pending, meta) {
+                let last = match performer.perform(work, pending, meta, source, sink) {
                     Ok(last) => last,
                     Err(function) => return going(reach - left, function, hints, at.steps, peak),
                 };

@@ -1,6 +1,6 @@
 //! The arguments of the call that the next step of a machine performs.
-ghost use Rattle.std.specs.Prelude.{◌≡◌, ℕ, length, slice_get, MatchOption, None, Some};
-ghost use Rattle.trac_space.specs.Texts.{text_of_cells};
+ghost use Rattle.std.specs.Prelude.{◌≡◌, ℕ, length, slice_get, All, MatchOption, None, Some};
+ghost use Rattle.trac_space.specs.Texts.{IsByte, text_of_cells};
 ghost use Rattle.trac_functions.specs.Flat.{memory_of};
 ghost use Rattle.trac_core.specs.OpenCalls.{next_texts, performed_texts};
 ghost use Rattle.trac_core.specs.StepsInRow.{IsPlainFrom};
@@ -28,9 +28,10 @@ impl<'a> Machine<'a> {
     /// where the call has no such argument, and where that step performs no call, as `next_call` says. Looks at the
     /// arguments up to this one. This processor's own choice.
     pub fn argument(&self, which: u32) -> Option<&[Cell]>
-        ensures { MatchOption result
+        ensures argument { MatchOption result
             (slice_get (next_texts self.now) which ≡ None)
             (λ cells. slice_get (next_texts self.now) which ≡ Some (text_of_cells cells.now)) }
+        ensures bytes { MatchOption result (Unit {0}) (λ cells. All IsByte cells.now) }
     {
         if self.fate.is_none() && self.steps < self.allowance {
             performed_argument(&self.work, self.plain, which)
@@ -56,9 +57,10 @@ fn performed_count(work: &Work, plain: u32) -> u32
 /// no comma mark stands in the neutral string.
 fn performed_argument<'w>(work: &'w Work, plain: u32, which: u32) -> Option<&'w [Cell]>
     requires { IsPlainFrom plain work.now.neutral }
-    ensures { (meta : ℕ) → let texts = performed_texts (memory_of meta work.now) in MatchOption result
+    ensures argument { (meta : ℕ) → let texts = performed_texts (memory_of meta work.now) in MatchOption result
         (slice_get texts which ≡ None)
         (λ cells. slice_get texts which ≡ Some (text_of_cells cells.now)) }
+    ensures bytes { MatchOption result (Unit {0}) (λ cells. All IsByte cells.now) }
 {
     let Some(place) = closed_call(work) else {
         return None;

@@ -1,21 +1,31 @@
-//! How many bytes the next step of a machine prints.
-ghost use Rattle.std.specs.Prelude.{◌≡◌, ◌≢◌, ◌<◌, ◌≤◌, ℕ, length, false, Some, MatchOption};
+//! What the next step of a machine prints: how many bytes, and the step without them.
+ghost use Rattle.std.specs.Prelude.{◌≡◌, ◌≢◌, ◌<◌, ◌≤◌, ◌++◌, ℕ, [], length, false, true, None, Some};
+ghost use Rattle.std.specs.Prelude.{MatchOption, OnErr, OnOk, slice_get};
+ghost use Rattle.trac_language.specs.Text.{Text};
+ghost use Rattle.trac_space.specs.Texts.{text_of_cells};
+ghost use Rattle.trac_devices.specs.Devices.{Stream};
+ghost use Rattle.trac_functions.specs.Calls.{KeepsRoom};
 ghost use Rattle.trac_language.specs.declared.function.Function.TheVariants.{PrintForm};
 ghost use Rattle.trac_language.specs.State.{Input};
 ghost use Rattle.trac_space.specs.Calls.{IsLastCall};
 ghost use Rattle.trac_forms.specs.Contents.{IsTextPart, IsSound};
 ghost use Rattle.trac_functions.specs.Flat.{memory_of};
-ghost use Rattle.trac_core.specs.Attempts.{function_at};
+ghost use Rattle.trac_core.specs.Attempts.{function_at, scene, Tried};
+ghost use Rattle.trac_core.specs.Machine.{GoesOn, KeepsLimits, KeepsSettings, ending, moment};
 ghost use Rattle.trac_core.specs.Display.{display_named};
 ghost use Rattle.trac_core.specs.Performed.{performs, prints_output};
 ghost use Rattle.trac_core.specs.Session.{next_function, next_printed, step_prints, call_prints};
 ghost use Rattle.trac_core.specs.StepsInRow.{IsPlainFrom};
 
 use super::Machine;
+use super::changing::Refused;
 use super::closing::{closed_call, named_at};
+use crate::attempt::Attempt;
+use crate::delivery::finish_call;
 use crate::display::display_len;
 use crate::scan::InnermostCall;
 use trac_forms::Work;
+use trac_functions::arguments::CallResult;
 use trac_language::Function;
 use trac_space::Part;
 
@@ -52,6 +62,83 @@ impl<'a> Machine<'a> {
             None
         }
     }
+}
+
+impl<'a> Machine<'a> {
+    /// Makes the next step, which prints, and drops what it prints: a host that took it in pieces goes on so.
+    /// `Refused`, with nothing changed, where that step prints nothing, the run is over, or the allowance is
+    /// used up. This processor's own choice.
+    pub fn skip_print(&mut self) -> Result<(), Refused>
+        // the step is the definition's, over any source, behind whatever was written
+        ensures done { OnOk result ((next_printed self.old (ending []) ≢ [])
+            × ((source : Stream) (written : Text) → GoesOn (moment self.old source written)
+            (moment self.new source (written ++ next_printed self.old (ending source.bytes))))) }
+        ensures refused { OnErr result
+            ((next_printed self.old (ending []) ≡ []) × (self.new ≡ self.old)) }
+        ensures going { OnOk result (self.new.fate ≡ None) }
+        ensures settings { KeepsSettings self.old self.new }
+        ensures limits { KeepsLimits self.new }
+    {
+        let function = self.next_function();
+        if !prints(function) {
+            return Err(Refused);
+        }
+        let Some(attempt) = skip_printing(&mut self.work, self.plain) else {
+            return Err(Refused);
+        };
+        self.plain = self.work.neutral_len();
+        self.count(attempt);
+        Ok(())
+    }
+}
+
+/// Makes a step that performs a call of a function that prints, and drops what it prints. None, with nothing changed,
+/// where it prints nothing. From the plain place on no comma mark stands in the neutral string.
+fn skip_printing(work: &mut Work, plain: u32) -> Option<Attempt>
+    requires plain { IsPlainFrom plain work.old.neutral }
+    requires prints { (meta : ℕ) → prints_output (performs (memory_of meta work.old)) ≡ true }
+    ensures skipped { MatchOption result
+        (((meta : ℕ) (input : Input) → step_prints (memory_of meta work.old) input ≡ [])
+        × (work.new ≡ work.old))
+        (λ attempt. (attempt.fate ≡ None) × ((attempt.need ≤ work.old.room)
+        × (((meta : ℕ) (input : Input) → step_prints (memory_of meta work.old) input ≢ [])
+        × ((meta : ℕ) (source : Stream) (written : Text) →
+        Tried (scene work.old meta source written) None attempt.need
+        (scene work.new meta source
+        (written ++ step_prints (memory_of meta work.old) (ending source.bytes))))))) }
+    ensures keeps { KeepsRoom work.old work.new }
+{
+    if printed_len(work, plain) == 0 {
+        return None;
+    }
+    let Some(place) = closed_call(work) else {
+        return None;
+    };
+    Some(end_printing(work, place))
+}
+
+/// Deletes the right parenthesis that ends the innermost call, which prints, and has the call leave with its null
+/// value.
+fn end_printing(work: &mut Work, place: u32) -> Attempt
+    requires closes { slice_get (text_of_cells work.old.active) 0 ≡ Some 41 }
+    requires innermost { IsLastCall work.old.neutral place }
+    requires prints { prints_output (function_at work.old.neutral place) ≡ true }
+    requires sound { IsSound work.old }
+    ensures tried { (meta : ℕ) (source : Stream) (written : Text) →
+        Tried (scene work.old meta source written) None result.need
+        (scene work.new meta source
+        (written ++ call_prints work.old place meta (ending source.bytes))) }
+    ensures done { result.fate ≡ None }
+    ensures fits { result.need ≤ work.old.room }
+    ensures keeps { KeepsRoom work.old work.new }
+{
+    work.drop_active(1);
+    let before = work.used();
+    let call = Part {
+        from: place,
+        to: work.neutral_len(),
+    };
+    finish_call(work, call, before, CallResult::Null(0))
 }
 
 /// Whether a call of the function prints.

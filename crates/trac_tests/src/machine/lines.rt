@@ -1,9 +1,8 @@
 //! The line and the status of runs that were worked by hand.
 use super::{AMPLE, Ended, Faults, HELLO, LOOP, MANY, NO_FAULTS, OUTPUT, SHOWN, faulty, outcome};
 use std::process::Abort;
+use trac_command::{Settings, fault_line, memory_line, status};
 use trac_core::{Fate, Report};
-use trac_lines::{fault_line, memory_line, status};
-use trac_words::Settings;
 
 /// The settings of a run that may make this number of steps.
 fn settings(cells: usize, steps: u64) -> Option<Settings> {

@@ -37,28 +37,6 @@ pub(crate) fn perform_pending<I: Source, O: Sink>(
     }
 }
 
-/// The step that `perform_pending` makes, where it needs no device. An error is the function that reads
-/// or prints: then nothing is done.
-#[inline(always)]
-pub(crate) fn perform_pending_alone(
-    work: &mut Work,
-    pending: Pending,
-    meta: &mut u8,
-) -> Result<Attempt, Option<Function>>
-{
-    match pending {
-        Pending::Idling => Ok(load_idling(work)),
-        Pending::EndOfCall(call) => {
-            let call = named(work, call);
-            if needs_device(work, call) {
-                return Err(call.function);
-            }
-            work.drop_active(1);
-            Ok(perform_alone(work, call, meta))
-        }
-    }
-}
-
 /// Performs the innermost call, whose right parenthesis was deleted.
 #[inline(always)]
 fn perform<I: Source, O: Sink>(
@@ -84,7 +62,7 @@ fn perform<I: Source, O: Sink>(
 
 /// Performs the innermost call, whose right parenthesis was deleted and which needs no device.
 #[inline(always)]
-fn perform_alone(work: &mut Work, call: NamedCall, meta: &mut u8) -> Attempt
+pub(crate) fn perform_alone(work: &mut Work, call: NamedCall, meta: &mut u8) -> Attempt
 {
     let before = work.used();
     let end = work.neutral_len();
@@ -126,13 +104,20 @@ pub(crate) fn named(work: &Work, call: InnermostCall) -> NamedCall
 
 /// Whether a call needs a device: it reads, it displays a form, or it prints a text that isn't null.
 #[inline(always)]
-fn needs_device(work: &Work, call: NamedCall) -> bool
+pub(crate) fn needs_device(work: &Work, call: NamedCall) -> bool
 {
     match call.function {
         Some(Function::ReadString | Function::ReadCharacter | Function::PrintForm) => true,
         Some(Function::PrintString) => has_text(work, call.arguments),
         _ => false,
     }
+}
+
+/// Whether a turn stops before a call for its host: its name is no function, and `stops` says to stop there.
+#[inline(always)]
+pub(crate) fn asks_host(stops: bool, call: NamedCall) -> bool
+{
+    call.function.is_none() && stops
 }
 
 /// Whether the next argument is a text that isn't null.

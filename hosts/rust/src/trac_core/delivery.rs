@@ -39,7 +39,16 @@ pub(crate) fn finish_call(work: &mut Work, call: Part, before: u32, made: CallRe
 #[inline]
 fn deliver(work: &mut Work, place: u32, from: u32)
 {
-    if is_scanned_again(work, place) {
+    let scanned = is_scanned_again(work, place);
+    move_value(work, place, from, scanned);
+}
+
+/// The call whose mark stands at the place leaves, and its value, which stands from another place on, goes before
+/// the active string if it is to be scanned again, and else stays.
+#[inline(always)]
+pub(crate) fn move_value(work: &mut Work, place: u32, from: u32, scanned: bool)
+{
+    if scanned {
         work.neutral_to_active(from);
         work.cut_neutral(place);
     } else {

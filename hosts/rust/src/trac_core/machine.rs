@@ -3,16 +3,17 @@
 
 use crate::trac_core::attempt::Attempt;
 use crate::trac_core::call::perform_pending;
-use crate::trac_core::idling::{IDLING_STEPS, begin_idling, may_begin_idling};
-use crate::trac_core::run_hints::RunHints;
-use crate::trac_core::scan::{Pending, scan_once, scan_steps};
+use crate::trac_core::performer::WithDevices;
+use crate::trac_core::scan::scan_once;
 use crate::trac_devices::{Sink, Source};
 use crate::trac_forms::Work;
 use crate::trac_language::{Fate, Report};
 use crate::trac_space::Cell;
 
 pub(crate) mod advancing;
+pub(crate) mod answering;
 pub(crate) mod arguments;
+pub(crate) mod changing;
 pub(crate) mod closing;
 pub(crate) mod open_calls;
 pub(crate) mod printing;
@@ -20,6 +21,8 @@ pub(crate) mod session;
 pub(crate) mod view;
 
 pub use advancing::Progress;
+pub use answering::Delivery;
+pub use changing::Refused;
 pub use open_calls::{CallMark, NextCall, OpenCall};
 pub use session::Awaits;
 
@@ -35,6 +38,8 @@ pub struct Machine<'a> {
     steps: u64,
     peak: u32,
     fate: Option<Fate>,
+    /// Whether turns stop before a call whose name is no function.
+    stops: bool,
 }
 
 impl<'a> Machine<'a> {
@@ -50,6 +55,7 @@ impl<'a> Machine<'a> {
             steps: 0,
             peak: 0,
             fate: None,
+            stops: false,
         }
     }
 
@@ -125,17 +131,11 @@ impl<'a> Machine<'a> {
         if let Some(fate) = self.fate {
             return self.report_with(fate);
         }
-        let at = Counters {
-            allowance: self.allowance,
-            steps: self.steps,
-            peak: self.peak,
-        };
-        let report = run_to_end(&mut self.work, &mut self.meta, at, source, sink);
-        self.steps = report.steps;
-        self.peak = report.peak;
-        self.fate = Some(report.fate);
-        self.plain = self.work.neutral_len();
-        report
+        let left = self.allowance - self.steps;
+        self.drive(WithDevices, left, source, sink);
+        let fate = self.fate.unwrap_or(Fate::Steps);
+        self.fate = Some(fate);
+        self.report_with(fate)
     }
 
     /// The report of a run that ended with this fate.
@@ -155,54 +155,6 @@ struct Counters {
     allowance: u64,
     steps: u64,
     peak: u32,
-}
-
-/// Makes steps to the end of a run that isn't over and has these counters, and reports what it came
-/// to. The counters are single values here, and no part of a machine, so that they need not stand
-/// in memory.
-#[inline(never)]
-fn run_to_end<I: Source, O: Sink>(
-    work: &mut Work,
-    meta: &mut u8,
-    at: Counters,
-    source: &mut I,
-    sink: &mut O,
-) -> Report
-{
-    let mut left = at.allowance - at.steps;
-    let mut peak = at.peak;
-    // The cells of the first step since a call: those that perform none need no more than it does.
-    let mut need = work.used();
-    let mut hints = RunHints::new(work.neutral_len());
-    while left > 0 {
-        match scan_steps(work, left, &mut hints) {
-            Ok(done) => {
-                left -= done;
-                peak = peak.max(need);
-            }
-            Err(Pending::Idling) if may_begin_idling(work, left) => {
-                peak = peak.max(begin_idling(work));
-                left -= IDLING_STEPS;
-                need = work.used();
-                hints = RunHints::new(work.neutral_len());
-            }
-            Err(pending) => {
-                let last = perform_pending(work, pending, meta, source, sink);
-                if let Some(fate) = last.fate {
-                    return ended(fate, last.need, at.allowance - left, peak);
-                }
-                left -= 1;
-                peak = peak.max(last.need);
-                need = work.used();
-                hints = RunHints::new(work.neutral_len());
-            }
-        }
-    }
-    Report {
-        fate: Fate::Steps,
-        steps: at.allowance,
-        peak,
-    }
 }
 
 /// What a run reports that ended with this fate in a step that needed `need` cells, after `steps`

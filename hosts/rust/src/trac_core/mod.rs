@@ -9,6 +9,7 @@ mod display;
 mod idling;
 mod input_output;
 mod machine;
+mod performer;
 mod rules;
 mod run_hints;
 mod runs;
@@ -16,6 +17,6 @@ mod scan;
 mod streaming;
 
 pub use display::{display_len, show_form};
-pub use machine::{Awaits, CallMark, Machine, NextCall, OpenCall, Progress};
+pub use machine::{Awaits, CallMark, Delivery, Machine, NextCall, OpenCall, Progress, Refused};
 pub use rules::ScanningRule;
 pub use runs::is_layout;

@@ -75,21 +75,10 @@ fn write_all(text: &[Cell], bytes: &mut [u8])
     }
 }
 
-// Writes characters over as many bytes, but only whole blocks of eight. Gives how many bytes it wrote.
+// Writes characters over as many bytes, but only whole blocks of eight, two at a time. Gives how many bytes it
+// wrote.
 #[inline]
 fn write_blocks(text: &[Cell], bytes: &mut [u8]) -> usize
-{
-    let mut i = write_two_blocks(text, bytes);
-    while text.len() - i >= 8 {
-        write_block(text, bytes, i);
-        i += 8;
-    }
-    i
-}
-
-// Writes characters over as many bytes, but only whole parts of sixteen. Gives how many bytes it wrote.
-#[inline]
-fn write_two_blocks(text: &[Cell], bytes: &mut [u8]) -> usize
 {
     let mut i = 0;
     while text.len() - i >= 16 {
@@ -97,7 +86,11 @@ fn write_two_blocks(text: &[Cell], bytes: &mut [u8]) -> usize
         write_block(text, bytes, i + 8);
         i += 16;
     }
-    i
+    if text.len() - i < 8 {
+        return i;
+    }
+    write_block(text, bytes, i);
+    i + 8
 }
 
 // Writes the eight characters from cell `i` on over their bytes.

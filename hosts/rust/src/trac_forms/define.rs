@@ -100,7 +100,7 @@ impl<'a> Work<'a> {
     }
 
     // Removes the form from the list, the store and the index.
-    fn remove(&mut self, form: Located)
+    pub(crate) fn remove(&mut self, form: Located)
     {
         unindex(&mut self.space, form, self.count);
         let end = end_of(&self.space, form);

@@ -1,6 +1,6 @@
 // Generated from crates/trac_forms/src/fill.rt by hosts/rust/generate, and never edited.
-//! Copies the rest of a form with its gaps filled, to the front of active or to the end of neutral (Mooers
-//! 1966). Takes the character at the pointer.
+//! Copies the rest of a form with its gaps filled, to the front of active (Mooers 1966). Takes the character at
+//! the pointer.
 
 use crate::trac_forms::item::FormId;
 use crate::trac_forms::work::Work;
@@ -8,23 +8,10 @@ use crate::trac_space::{Cell, Part, Space};
 use crate::trac_store::{Located, fill_items, heads_of};
 
 impl<'a> Work<'a> {
-    /// Copies the form's body from its pointer on to the end of neutral, each gap k replaced by argument k:
+    /// Copies the form's body from its pointer on to the front of active, each gap k replaced by argument k:
     /// the k-th, from 1, of the texts between the comma marks of neutral from place `first` up to `end`, or
-    /// nothing if there is no such text. False, with nothing changed, if the copy doesn't fit.
-    pub fn fill_body(&mut self, form: FormId, first: u32, end: u32) -> bool
-    {
-        match self.load_filled(form, first, end, end) {
-            Some(size) => {
-                self.active_to_neutral(size);
-                true
-            }
-            None => false,
-        }
-    }
-
-    /// Copies the form's body from its pointer on to the front of active, its gaps replaced as by `fill_body`,
-    /// and gives how many characters these are. No comma mark stands in neutral from place `plain` up to
-    /// `end`. None, with nothing changed, if the copy doesn't fit.
+    /// nothing if there is no such text. Gives how many characters these are. No comma mark stands in neutral
+    /// from place `plain` up to `end`. None, with nothing changed, if the copy doesn't fit.
     #[inline(always)]
     pub fn load_filled(&mut self, form: FormId, first: u32, end: u32, plain: u32) -> Option<u32>
     {

@@ -9,6 +9,7 @@
 //! a form costs 3 cells beside one for each character of its name and each item of its body, are
 //! this processor's own choice. Nothing here takes memory.
 
+mod body;
 mod copy;
 mod define;
 mod fill;
@@ -18,12 +19,14 @@ mod index;
 mod item;
 mod listed;
 mod marked_forms;
+mod outside;
 mod removal;
 mod search;
 mod segment;
 mod store;
 mod work;
 
+pub use body::{Body, TextBody};
 pub use item::{FormId, Full};
 pub use listed::{Forms, StoredForm};
 pub use crate::trac_language::Item;

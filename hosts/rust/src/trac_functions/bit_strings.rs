@@ -26,11 +26,7 @@ pub fn union(work: &mut Work, mut arguments: Arguments) -> CallResult
     let second = arguments.next(work);
     let left = digits_of(work, first);
     let right = digits_of(work, second);
-    let prefix = Part {
-        from: first.from,
-        to: left.from,
-    };
-    give_bits(work, prefix, BitResult::Union(left, right))
+    give_bits(work, first, left, BitResult::Union(left, right))
 }
 
 /// `bi,A,B`: the prefix of A and after it the intersection of the bit strings
@@ -42,11 +38,7 @@ pub fn intersection(work: &mut Work, mut arguments: Arguments) -> CallResult
     let second = arguments.next(work);
     let left = digits_of(work, first);
     let right = digits_of(work, second);
-    let prefix = Part {
-        from: first.from,
-        to: left.from,
-    };
-    give_bits(work, prefix, BitResult::Intersection(left, right))
+    give_bits(work, first, left, BitResult::Intersection(left, right))
 }
 
 /// `bc,O`: the prefix of O and after it the octal digits of
@@ -55,11 +47,7 @@ pub fn complement(work: &mut Work, mut arguments: Arguments) -> CallResult
 {
     let first = arguments.next(work);
     let digits = digits_of(work, first);
-    let prefix = Part {
-        from: first.from,
-        to: digits.from,
-    };
-    give_bits(work, prefix, BitResult::Complement(digits))
+    give_bits(work, first, digits, BitResult::Complement(digits))
 }
 
 /// `bs,D,O`: the prefix of O and after it the octal digits of its bit string, shifted by as many
@@ -72,11 +60,7 @@ pub fn shift(work: &mut Work, mut arguments: Arguments) -> CallResult
     let shifted = arguments.next(work);
     let by = crate::trac_values::shift_of(text(work, distance));
     let digits = digits_of(work, shifted);
-    let prefix = Part {
-        from: shifted.from,
-        to: digits.from,
-    };
-    give_bits(work, prefix, BitResult::Shift(by, digits))
+    give_bits(work, shifted, digits, BitResult::Shift(by, digits))
 }
 
 /// `br,D,O`: the prefix of O and after it the octal digits of its bit string,
@@ -90,11 +74,7 @@ pub fn rotate(work: &mut Work, mut arguments: Arguments) -> CallResult
     let digits = digits_of(work, rotated);
     let bits = (3 * (digits.to - digits.from)).max(1);
     let by = crate::trac_values::rotation_of(text(work, distance), bits);
-    let prefix = Part {
-        from: rotated.from,
-        to: digits.from,
-    };
-    give_bits(work, prefix, BitResult::Rotation(by, digits))
+    give_bits(work, rotated, digits, BitResult::Rotation(by, digits))
 }
 
 /// Where the octal digits stand at the end of a part of the neutral string.
@@ -155,10 +135,14 @@ fn put_digits(work: &mut Work, bits: BitResult)
     }
 }
 
-/// A part of the neutral string, and the octal digits of a
-/// result behind it, are the value of a call.
-fn give_bits(work: &mut Work, prefix: Part, bits: BitResult) -> CallResult
+/// The prefix of an argument, which is what stands before its digits, and the octal digits of a result behind
+/// it are the value of a call.
+fn give_bits(work: &mut Work, argument: Part, digits: Part, bits: BitResult) -> CallResult
 {
+    let prefix = Part {
+        from: argument.from,
+        to: digits.from,
+    };
     if work.free() < prefix.to - prefix.from + digits_made(work, bits) {
         return CallResult::Full;
     }

@@ -3,7 +3,8 @@
 //! marks. Meanwhile the places of the comma marks lie over the first cells that they part.
 
 use crate::trac_space::cell::{Cell, is_character, is_comma};
-use crate::trac_space::copies::{BLOCK, characters_before, copy_at_once_higher, copy_short_higher};
+use crate::trac_space::character_runs::characters_before;
+use crate::trac_space::copies::{BLOCK, HIGHER, copy_at_once, copy_short};
 use crate::trac_space::overlay::{cell_under, laid, lift, number_over_laid};
 
 // The cells whose parts fill the gaps: where they begin in the block, how many they are, and how many
@@ -47,7 +48,7 @@ pub(crate) fn fill_cells(
     let mut at = stop;
     let mut to = to;
     while at >= BLOCK && distance(low, to) >= BLOCK {
-        copy_at_once_higher::<BLOCK>(cells, at - BLOCK, distance(at, to));
+        copy_at_once::<BLOCK, HIGHER>(cells, at - BLOCK, to - BLOCK);
         let run = characters_before(cells, at);
         if at - from <= run {
             return Some(to - (at - from));
@@ -106,7 +107,7 @@ fn put_lifted(cells: &mut [Cell], start: usize, to: usize, n: usize, given: Give
         cells[to] = cell_under(cells[start]);
         return;
     }
-    copy_short_higher(cells, start, distance(start, to), n);
+    copy_short::<HIGHER>(cells, start, n, to);
     lift(&mut cells[to..to + n.min(laid - start)]);
 }
 
@@ -115,9 +116,9 @@ fn put_lifted(cells: &mut [Cell], start: usize, to: usize, n: usize, given: Give
 fn put_plain(cells: &mut [Cell], start: usize, to: usize, n: usize)
 {
     if n == 1 {
-        copy_at_once_higher::<1>(cells, start, distance(start, to));
+        copy_at_once::<1, HIGHER>(cells, start, to);
     } else {
-        copy_short_higher(cells, start, distance(start, to), n);
+        copy_short::<HIGHER>(cells, start, n, to);
     }
 }
 

@@ -8,7 +8,9 @@
 
 mod block;
 mod byte_search;
+mod byte_writing;
 mod cell;
+mod character_runs;
 mod copies;
 mod filling;
 mod neutral;

@@ -1,6 +1,28 @@
 // Generated from crates/trac_tests/src/lib.rt by hosts/rust/generate, and never edited.
-//! Tests of whole runs, by public names: rows that were worked by hand, in every room, with every
-//! allowance and over devices that fail, and the lines and statuses of runs.
+//! Tests by public names: of the three lists of a block; of devices, some of which fail; of values; of machines that
+//! are used again, fed in pieces and looked at; of whole runs, whose rows were worked by hand, in every room, with
+//! every allowance and over devices that fail; and of the settings, lines and statuses of runs.
 
 #[cfg(test)]
+#[cfg(feature = "std")]
+mod buffers;
+#[cfg(test)]
+mod changing;
+#[cfg(test)]
+#[cfg(feature = "std")]
+mod devices;
+#[cfg(test)]
+#[cfg(feature = "std")]
+mod fakes;
+#[cfg(test)]
 mod machine;
+#[cfg(test)]
+mod session;
+#[cfg(test)]
+mod space;
+#[cfg(test)]
+mod taking;
+#[cfg(test)]
+mod values;
+#[cfg(test)]
+mod view;

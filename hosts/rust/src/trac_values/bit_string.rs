@@ -1,7 +1,7 @@
 // Generated from crates/trac_values/src/bit_string.rt by hosts/rust/generate, and never edited.
 //! Bit strings at the end of texts.
 
-use crate::trac_values::number::{Count, rotation_of, shift_of};
+use crate::trac_values::counts::{Count, rotation_of, shift_of};
 use crate::trac_space::{Cell, character_of};
 
 /// Whether a character is a digit from 0 to 7.
@@ -22,7 +22,7 @@ fn octal_digits_start(cells: &[Cell]) -> usize
 
 /// The octal digits of the bit string at the end of a text: its longest suffix of the digits 0 to 7, which
 /// may have no cell.
-pub fn octal_digits(cells: &[Cell]) -> &[Cell]
+fn octal_digits(cells: &[Cell]) -> &[Cell]
 {
     cells.split_at(octal_digits_start(cells)).1
 }

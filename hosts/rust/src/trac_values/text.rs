@@ -4,7 +4,7 @@
 use crate::trac_space::{Cell, byte_in, character_of};
 
 /// Whether the last of the cells is this character. False if there is no cell.
-pub fn ends_with(cells: &[Cell], character: u8) -> bool
+pub(crate) fn ends_with(cells: &[Cell], character: u8) -> bool
 {
     !cells.is_empty() && character_of(&cells[cells.len() - 1]) == character
 }

@@ -2,7 +2,27 @@ use Rattle.trac_c.proofs.Imports.{◌≡◌, ◌+◌, ◌-◌, ◌∙◌, ap, su
 use Rattle.std.proofs.lemmas.Grind.{common_steps}
 use Rattle.trac_c.specs.Turns.{TurnsTo, written_to}
 use Rattle.trac_c.proofs.Alone.{goes-on, goes-further, ends-on, ends-full, is-going}
+use Rattle.trac_core.specs.Machine.{MachineState, KeepsSettings}
 use Rattle.trac_c.proofs.turn.go_on.Goals as goal
+
+-- settings that are kept twice
+settings-on : (a b d : MachineState) → KeepsSettings a b → KeepsSettings b d → KeepsSettings a d
+settings-on a b d first then = record { room = then.room ∙ first.room; allowance = then.allowance ∙ first.allowance; stops = then.stops ∙ first.stops }
+
+pub returns-then-done-most-clause-settings : goal.returns-then-done-most-clause-settings
+returns-then-done-most-clause-settings c =
+    let h = c.advance-progress.ensures in
+    settings-on c.args.machine.now c.loop-done.machine c.advance-progress.new.self c.loop-done.invariant.settings (record { room = h.room; allowance = h.allowance; stops = h.stops })
+
+pub returns-then-ne-clause-settings : goal.returns-then-ne-clause-settings
+returns-then-ne-clause-settings c =
+    let h = c.advance-progress.ensures in
+    settings-on c.args.machine.now c.advance-progress.new.self c.step_on-part.new.machine
+    (settings-on c.args.machine.now c.loop-done.machine c.advance-progress.new.self c.loop-done.invariant.settings (record { room = h.room; allowance = h.allowance; stops = h.stops }))
+    c.step_on-part.ensures.settings
+
+pub returns-clause-settings : goal.returns-clause-settings
+returns-clause-settings c = c.loop-done.invariant.settings
 
 pub returns-then-done-most-clause-turned : goal.returns-then-done-most-clause-turned
 returns-then-done-most-clause-turned c = λ going.
@@ -44,6 +64,11 @@ loop-done-preserved c =
           let here = h.over fate (ap (λ m. m.fate) (still.1 ∙ before.1) ∙ over) in
           absurd (let went = went in cc);
       same_room = h.same_room ∙ c.loop-done.invariant.same_room;
+      settings =
+          let a = c.advance-progress.ensures in
+          settings-on c.args.machine.now c.advance-progress.new.self c.step_on-part.new.machine
+          (settings-on c.args.machine.now c.loop-done.machine c.advance-progress.new.self c.loop-done.invariant.settings (record { room = a.room; allowance = a.allowance; stops = a.stops }))
+          h.settings;
       bound = omega (arith, c.if-done-most.false, c.advance-progress.ensures.few, c.loop-done-test.true);
       sink = (others.1, h.fits);
     }

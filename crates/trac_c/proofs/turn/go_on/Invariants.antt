@@ -1,4 +1,5 @@
 use Rattle.trac_c.proofs.Imports.{◌≡◌, ◌-◌, ◌≤◌, None, Some, Fate, Goes, stands}
+use Rattle.trac_core.specs.Machine.{KeepsSettings}
 use Rattle.trac_c.proofs.turn.go_on.Given as goal
 
 -- `done` steps are done, the run is not over, and no device has failed; where the run was over
@@ -16,6 +17,7 @@ invariant-loop-done l =
           × (l.source ≡ l.initial.source) × (l.sink.len ≡ l.initial.sink.len);
       same_room : l.sink.room.ghost_name ≡ l.initial.sink.room.ghost_name;
       bound : l.done ≤ l.most;
+      settings : KeepsSettings l.initial.machine l.machine;
       sink : (l.sink.failures ≡ 0) × (l.sink.behind ≡ None);
     }
 

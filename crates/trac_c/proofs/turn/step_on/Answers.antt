@@ -64,7 +64,7 @@ returns-in-Some-step-clause-turns c = λ going.
           not-broken c.in-Some-step.fate (moment old source (written_to sink)) new (length sink.room.now) going room answers
               (λ e. (let one = outputs e in let counts = c.step.ensures.output_failed in broken-more c.step.new.sink (length sink.room.now) size.1 (omega (arith, one, counts, c.requires.sink_sound.0)))),
         ),
-        answers,
+        (answers, sym c.asks.ensures ∙ c.if-asks.false),
       ),
     )
 
@@ -81,7 +81,7 @@ returns-in-Some-step-clause-fits c = go c.args.machine.now.fate refl
         let room = room-left sink 0 c.free.result c.requires.sink_sound.1 c.free.ensures (omega arith) in
         let turns = returns-in-Some-step-clause-turns c going in
         none-behind c.step.new.sink (length sink.room.now) size.1
-        (within-ended c.in-Some-step.fate (moment old source (written_to sink)) new (length sink.room.now) turns.1.0 (omega (arith, room)) turns.1.1)
+        (within-ended c.in-Some-step.fate (moment old source (written_to sink)) new (length sink.room.now) turns.1.0 (omega (arith, room)) turns.1.1.0)
     go (Some fate) over =
         let is = ap (λ (m : MachineState). m.fate) c.prints_past.ensures.same ∙ over in
         let stays = c.step.ensures.over (subst IsSome (sym is) refl) in

@@ -7,6 +7,7 @@ use Rattle.trac_c.proofs.turn.take_turn.Goals as goal
 pub returns : goal.returns
 returns c =
     record {
+      settings = c.go_on-last.ensures.settings;
       turn = λ going. (
         c.go_on-last.result,
         (

@@ -51,9 +51,9 @@ returns-in-Some g c =
           watched-over c.args.input.now (length c.args.block.now) c.args.steps (g.I.Source.stream c.args.source.now)
           (moment m (g.I.Source.stream c.loop-findings.source) (bytes_of c.loop-findings.unkept.written.value))
           (moment next (g.I.Source.stream c.step-fate.new.source) (bytes_of c.step-fate.new.sink.written.value))
-          c.loop-findings.watch c.tell.new.self c.keep_warnings.new.watch (found_in c.loop-findings.findings) (found_in c.keep_warnings.new.findings) c.in-Some.fate
+          c.loop-findings.watch c.tell.new.self c.keep_warnings.new.watch (found_in c.loop-findings.findings) (found_in c.keep_warnings.new.findings) (found_in c.add_names.new.findings) c.in-Some.fate
           (record { fate = c.in-Some.fate; steps = c.steps.result; peak = c.peak.result })
-          i.same_room i.same_allowance (i.watched tells) watches kept.stays kept.found
+          i.same_room i.same_allowance (i.watched tells) watches kept.stays kept.found c.in_ok-add_names.ensures
           (h.answers i.not_over (i.told tells) tt)
           (λ j. record { fate = c.in-Some.fate; steps = c.steps.ensures j; peak = c.peak.ensures j });
     }

@@ -16,8 +16,8 @@ overflow_add-prefix c =
 pub returns-clause-makes : goal.returns-clause-makes
 returns-clause-makes c = λ function args scanned valued.
     let w = c.args.work.now in
-    let long = part-long w.neutral c.args.prefix.from c.args.prefix.to c.requires.prefix in
-    let text = part_text w.neutral c.args.prefix.from c.args.prefix.to in
+    let long = part-long w.neutral c.args.argument.from c.args.digits.from c.requires.prefix in
+    let text = part_text w.neutral c.args.argument.from c.args.digits.from in
     let one : used w + length text ≤ w.room = omega (arith, long, c.free.ensures.value, c.if-free-prefix.false) in
     let put = OnTrue_at (c.put_part.ensures.put.1 one) c.put_part.ensures.last in
     let value = text ++ octal (bits_made w.neutral c.args.bits) in

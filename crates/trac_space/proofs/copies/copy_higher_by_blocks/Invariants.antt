@@ -7,7 +7,7 @@ invariant-loop-left l =
     record {
       some : 0 < l.left;
       within : l.left ≤ l.n;
-      copied : l.cells ≡ paste l.fn.cells (l.start + l.distance + l.left) (drop (l.start + l.left) l.fn.cells) (l.n - l.left);
+      copied : l.cells ≡ paste l.fn.cells (l.to + l.left) (drop (l.start + l.left) l.fn.cells) (l.n - l.left);
     }
 
 -- the cells that are left

@@ -6,9 +6,9 @@ pub loop-done-preserved : goal.loop-done-preserved
 loop-done-preserved c =
     record {
       within = omega arith;
-      copied = carried-on c.args.cells.now c.loop-done.cells c.copy_at_once_lower.new.cells c.args.start c.args.to c.loop-done.done 8 (omega arith) (omega arith) c.loop-done.invariant.copied c.copy_at_once_lower.ensures.after;
+      copied = carried-on c.args.cells.now c.loop-done.cells c.copy_at_once.new.cells c.args.start c.args.to c.loop-done.done 8 (omega arith) (omega arith) c.loop-done.invariant.copied c.copy_at_once.ensures.after;
     }
 
 pub returns-clause-after : goal.returns-clause-after
 returns-clause-after c =
-    carried-last c.args.cells.now c.loop-done.cells c.copy_at_once_lower-2.new.cells c.args.start c.args.to c.loop-done.done 8 c.args.n (omega arith) (omega arith) (omega arith) (omega arith) (omega arith) c.loop-done.invariant.copied c.copy_at_once_lower-2.ensures.after
+    carried-last c.args.cells.now c.loop-done.cells c.copy_at_once-2.new.cells c.args.start c.args.to c.loop-done.done 8 c.args.n (omega arith) (omega arith) (omega arith) (omega arith) (omega arith) c.loop-done.invariant.copied c.copy_at_once-2.ensures.after

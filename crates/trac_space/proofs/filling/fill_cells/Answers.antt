@@ -1,63 +1,66 @@
 use Rattle.trac_space.proofs.Imports.{ℕ, ◌≡◌, ◌+◌, ◌-◌, ◌≤◌, ◌<◌, ◌∙◌, length, drop, map, slice_range, slice_index_or, sym, ap, arith, drop-drop, get_or_default, length-between, Byte, Comma, is_byte_cell, filling, part_between, ordinal_of}
 use Rattle.trac_space.specs.Overlay.{under}
-use Rattle.trac_space.proofs.Filled.{FilledFrom, along-start, along-behind, along-end, along-rest, commas-now, same-part, same-cell, block-run, cell-put, cell-full, filling-gap, last-bytes}
+use Rattle.trac_space.proofs.Filled.{FilledFrom, task, along-start, along-behind, along-end, along-rest, commas-now, same-part, same-cell, block-run, cell-put, cell-full, filling-gap, last-bytes}
 use Rattle.trac_space.proofs.filling.fill_cells.Goals as goal
 use Rattle.trac_space.proofs.filling.fill_cells.Goals.{After-characters_before-run, After-part_numbered-start}
 
 -- a block is copied, whose last `r` cells are characters
-ran : (c : After-characters_before-run) → (r : ℕ) → r ≤ c.characters_before-run.result → c.args.from + r ≤ c.loop-at.at → FilledFrom c.args.cells.now c.copy_at_once_higher.new.cells (map under (slice_range c.args.cells.now c.args.given.start (c.args.given.start + c.args.given.len))) c.args.from c.args.stop c.args.low c.args.to (c.loop-at.at - r) (c.loop-at.to - r)
+ran : (c : After-characters_before-run) → (r : ℕ) → r ≤ c.characters_before-run.result → c.args.from + r ≤ c.loop-at.at → FilledFrom (task c.args.cells.now c.args.from c.args.stop c.args.low c.args.to c.args.given.start c.args.given.len) c.copy_at_once.new.cells (c.loop-at.at - r) (c.loop-at.to - r)
 ran c r few order =
     let start : c.loop-at.at - 8 + 8 ≡ c.loop-at.at = omega (arith, c.loop-at-test.true) in
     let lower : c.loop-at.to - 8 + 8 ≡ c.loop-at.to = omega (arith, c.if-distance-ge-BLOCK.true, c.distance.ensures) in
-    let to : c.loop-at.to - 8 ≡ c.loop-at.at - 8 + c.distance-in-loop-at.result = omega (arith, start, lower, c.distance-in-loop-at.ensures) in
     let apart : c.args.low ≤ c.loop-at.to - 8 = omega (arith, lower, c.if-distance-ge-BLOCK.true, c.distance.ensures) in
-    block-run c.args.cells.now _ c.args.from c.args.stop c.args.low c.args.to (omega (arith, c.requires.before, c.requires.behind)) c.requires.inside c.loop-at.cells c.loop-at.at c.loop-at.to c.loop-at.invariant c.copy_at_once_higher.new.cells (c.loop-at.at - 8) (c.loop-at.to - 8) r start lower apart (c.copy_at_once_higher.ensures.after (c.loop-at.to - 8) to) c.copy_at_once_higher.ensures.len (omega (arith, few, c.characters_before-run.ensures.few)) order (last-bytes c.copy_at_once_higher.new.cells c.loop-at.at c.characters_before-run.result r few (omega (arith, c.characters_before-run.ensures.few, c.loop-at-test.true)) c.characters_before-run.ensures.bytes)
+    block-run c.loop-at.invariant c.copy_at_once.new.cells (c.loop-at.at - 8) (c.loop-at.to - 8) r start lower apart c.copy_at_once.ensures.after c.copy_at_once.ensures.len (omega (arith, few, c.characters_before-run.ensures.few)) order (last-bytes c.copy_at_once.new.cells c.loop-at.at c.characters_before-run.result r few (omega (arith, c.characters_before-run.ensures.few, c.loop-at-test.true)) c.characters_before-run.ensures.bytes)
 
 pub loop-at-init : goal.loop-at-init
 loop-at-init c =
-    along-start c.args.cells.now _ c.args.from c.args.stop c.args.low c.args.to (omega (arith, c.requires.before, c.requires.behind)) c.requires.inside c.requires.order c.requires.room
+    along-start (omega (arith, c.requires.before, c.requires.behind)) c.requires.inside c.requires.order c.requires.room
 
 -- where they begin the cells, they are all that is left
-ended : (c : After-characters_before-run) → c.loop-at.at - c.args.from ≤ c.characters_before-run.result → FilledFrom c.args.cells.now c.copy_at_once_higher.new.cells (map under (slice_range c.args.cells.now c.args.given.start (c.args.given.start + c.args.given.len))) c.args.from c.args.stop c.args.low c.args.to (c.loop-at.at - (c.loop-at.at - c.args.from)) (c.loop-at.to - (c.loop-at.at - c.args.from))
+ended : (c : After-characters_before-run) → c.loop-at.at - c.args.from ≤ c.characters_before-run.result → FilledFrom (task c.args.cells.now c.args.from c.args.stop c.args.low c.args.to c.args.given.start c.args.given.len) c.copy_at_once.new.cells (c.loop-at.at - (c.loop-at.at - c.args.from)) (c.loop-at.to - (c.loop-at.at - c.args.from))
 ended c all = let order = c.loop-at.invariant.order in ran c (c.loop-at.at - c.args.from) all (omega (arith, order))
 
 pub returns-then-at-from-clause-put : goal.returns-then-at-from-clause-put
 returns-then-at-from-clause-put c =
     let order = c.loop-at.invariant.order in
-    along-end c.args.cells.now _ c.args.from c.args.stop c.args.low c.args.to (omega (arith, c.requires.before, c.requires.behind)) c.requires.inside c.copy_at_once_higher.new.cells _ _ (ended (goal.at.returns-then-at-from-clause-put c).After-characters_before-run c.if-at-from.true) (omega (arith, order))
+    along-end (ended (goal.at.returns-then-at-from-clause-put c).After-characters_before-run c.if-at-from.true) (omega (arith, order))
 
 pub returns-then-at-from-clause-front : goal.returns-then-at-from-clause-front
 returns-then-at-from-clause-front c = (ended (goal.at.returns-then-at-from-clause-front c).After-characters_before-run c.if-at-from.true).front
 
 pub returns-then-at-from-clause-behind : goal.returns-then-at-from-clause-behind
 returns-then-at-from-clause-behind c =
-    along-behind c.args.cells.now _ c.args.from c.args.stop c.args.low c.args.to (omega (arith, c.requires.before, c.requires.behind)) c.requires.inside c.copy_at_once_higher.new.cells _ _ (ended (goal.at.returns-then-at-from-clause-behind c).After-characters_before-run c.if-at-from.true)
+    along-behind (ended (goal.at.returns-then-at-from-clause-behind c).After-characters_before-run c.if-at-from.true)
 
 -- more cells are left
-some : (c : After-characters_before-run) → c.characters_before-run.result < c.loop-at.at - c.args.from → FilledFrom c.args.cells.now c.copy_at_once_higher.new.cells (map under (slice_range c.args.cells.now c.args.given.start (c.args.given.start + c.args.given.len))) c.args.from c.args.stop c.args.low c.args.to (c.loop-at.at - c.characters_before-run.result) (c.loop-at.to - c.characters_before-run.result)
+some : (c : After-characters_before-run) → c.characters_before-run.result < c.loop-at.at - c.args.from → FilledFrom (task c.args.cells.now c.args.from c.args.stop c.args.low c.args.to c.args.given.start c.args.given.len) c.copy_at_once.new.cells (c.loop-at.at - c.characters_before-run.result) (c.loop-at.to - c.characters_before-run.result)
 some c less = ran c c.characters_before-run.result (omega arith) (omega (arith, less))
 
 pub loop-at-preserved-then-run-eq-BLOCK : goal.loop-at-preserved-then-run-eq-BLOCK
 loop-at-preserved-then-run-eq-BLOCK c = some (goal.at.loop-at-preserved-then-run-eq-BLOCK c).After-characters_before-run (omega (arith, c.if-at-from.false))
 
-pub part_numbered-start-requires-clause-commas : goal.part_numbered-start-requires-clause-commas
-part_numbered-start-requires-clause-commas c =
-    let k = (goal.at.part_numbered-start-requires-clause-commas c).After-characters_before-run in
-    commas-now c.args.cells.now _ c.args.from c.args.stop c.args.low c.args.to (omega (arith, c.requires.before, c.requires.behind)) c.requires.inside c.copy_at_once_higher.new.cells _ _ (some k (omega (arith, c.if-at-from.false))) c.args.given.start (c.args.given.start + c.args.given.len) c.args.given.commas c.requires.behind c.requires.commas
+pub part_numbered-start-requires : goal.part_numbered-start-requires
+part_numbered-start-requires c =
+    let i = some (goal.at.part_numbered-start-requires c).After-characters_before-run (omega (arith, c.if-at-from.false)) in
+    record {
+      inside = omega (arith, i.size, c.requires.given.inside);
+      bounded = omega (arith, i.size, c.requires.given.bounded);
+      commas = commas-now i c.args.given.start (c.args.given.start + c.args.given.len) c.args.given.commas c.requires.behind c.requires.given.commas;
+    }
 
 -- the cells that are to be put are those that fill the gap before the run
-are : (c : After-part_numbered-start) → (k : After-characters_before-run) → FilledFrom c.args.cells.now c.copy_at_once_higher.new.cells (map under (slice_range c.args.cells.now c.args.given.start (c.args.given.start + c.args.given.len))) c.args.from c.args.stop c.args.low c.args.to (c.loop-at.at - c.characters_before-run.result) (c.loop-at.to - c.characters_before-run.result) → map under (slice_range c.copy_at_once_higher.new.cells c.part_numbered-start.result.0 (c.part_numbered-start.result.0 + c.part_numbered-start.result.1)) ≡ filling (map under (slice_range c.args.cells.now c.args.given.start (c.args.given.start + c.args.given.len))) (slice_index_or c.args.cells.now (c.loop-at.at - c.characters_before-run.result - 1) Comma)
+are : (c : After-part_numbered-start) → (k : After-characters_before-run) → FilledFrom (task c.args.cells.now c.args.from c.args.stop c.args.low c.args.to c.args.given.start c.args.given.len) c.copy_at_once.new.cells (c.loop-at.at - c.characters_before-run.result) (c.loop-at.to - c.characters_before-run.result) → map under (slice_range c.copy_at_once.new.cells c.part_numbered-start.result.0 (c.part_numbered-start.result.0 + c.part_numbered-start.result.1)) ≡ filling (map under (slice_range c.args.cells.now c.args.given.start (c.args.given.start + c.args.given.len))) (slice_index_or c.args.cells.now (c.loop-at.at - c.characters_before-run.result - 1) Comma)
 are c k i =
     let old = c.args.cells.now in
-    let now = c.copy_at_once_higher.new.cells in
+    let now = c.copy_at_once.new.cells in
     let at = c.loop-at.at - c.characters_before-run.result - 1 in
     let within = c.loop-at.invariant.within in
     let room = c.loop-at.invariant.room in
     let long = c.loop-at.invariant.long in
     let less : at < c.args.low = omega (arith, c.if-at-from.false, c.requires.before, c.requires.behind, within) in
     let before : c.args.stop ≤ c.args.low = omega (arith, c.requires.before, c.requires.behind) in
-    let part = same-part old _ c.args.from c.args.stop c.args.low c.args.to before c.requires.inside now _ _ i c.args.given.start (c.args.given.start + c.args.given.len) c.requires.behind in
-    let cell = same-cell old _ c.args.from c.args.stop c.args.low c.args.to before c.requires.inside now _ _ i at Comma less in
+    let part = same-part i c.args.given.start (c.args.given.start + c.args.given.len) c.requires.behind in
+    let cell = same-cell i at Comma less in
     let inside : at < length now = omega (arith, less, i.size, room, long, c.requires.inside) in
     let stop = sym (ap is_byte_cell cell) ∙ c.characters_before-run.ensures.stop (omega (arith, c.if-run-eq-BLOCK.false, c.characters_before-run.ensures.few)) in
     let number = c.ordinal_in.ensures ∙ ap ordinal_of (get_or_default now at (Byte 0) Comma inside ∙ cell) in
@@ -66,34 +69,39 @@ are c k i =
     ∙ ap (part_between (map under (slice_range c.args.cells.now c.args.given.start (c.args.given.start + c.args.given.len)))) number
     ∙ sym (filling-gap (map under (slice_range c.args.cells.now c.args.given.start (c.args.given.start + c.args.given.len))) (slice_index_or old at Comma) stop)
 
-long : (c : After-part_numbered-start) → length c.copy_at_once_higher.new.cells ≡ length c.args.cells.now → length (slice_range c.copy_at_once_higher.new.cells c.part_numbered-start.result.0 (c.part_numbered-start.result.0 + c.part_numbered-start.result.1)) ≡ c.part_numbered-start.result.1
+long : (c : After-part_numbered-start) → length c.copy_at_once.new.cells ≡ length c.args.cells.now → length (slice_range c.copy_at_once.new.cells c.part_numbered-start.result.0 (c.part_numbered-start.result.0 + c.part_numbered-start.result.1)) ≡ c.part_numbered-start.result.1
 long c size =
-    omega (arith, length-between c.copy_at_once_higher.new.cells c.part_numbered-start.result.0 (c.part_numbered-start.result.0 + c.part_numbered-start.result.1) (omega (arith, c.part_numbered-start.ensures.within, c.requires.behind, c.requires.room, c.requires.inside, size)))
+    omega (arith, length-between c.copy_at_once.new.cells c.part_numbered-start.result.0 (c.part_numbered-start.result.0 + c.part_numbered-start.result.1) (omega (arith, c.part_numbered-start.ensures.within, c.requires.behind, c.requires.room, c.requires.inside, size)))
 
 pub returns-then-n-to-clause-put : goal.returns-then-n-to-clause-put
 returns-then-n-to-clause-put c =
     let at = goal.at.returns-then-n-to-clause-put c in
     let k = at.After-characters_before-run in
     let i = some k (omega (arith, c.if-at-from.false)) in
-    cell-full c.args.cells.now _ c.args.from c.args.stop c.args.low c.args.to (omega (arith, c.requires.before, c.requires.behind)) c.requires.inside c.copy_at_once_higher.new.cells _ _ i (c.loop-at.at - c.characters_before-run.result - 1) (omega (arith, c.if-at-from.false)) (omega (arith, c.if-at-from.false)) _ c.part_numbered-start.result.1 (long at.After-part_numbered-start i.size) (are at.After-part_numbered-start k i) (omega (arith, c.if-n-to.true))
+    cell-full i (c.loop-at.at - c.characters_before-run.result - 1) (omega (arith, c.if-at-from.false)) (omega (arith, c.if-at-from.false)) _ c.part_numbered-start.result.1 (long at.After-part_numbered-start i.size) (are at.After-part_numbered-start k i) (omega (arith, c.if-n-to.true))
 
 pub returns-then-n-to-clause-front : goal.returns-then-n-to-clause-front
 returns-then-n-to-clause-front c = (some (goal.at.returns-then-n-to-clause-front c).After-characters_before-run (omega (arith, c.if-at-from.false))).front
 
 pub returns-then-n-to-clause-behind : goal.returns-then-n-to-clause-behind
 returns-then-n-to-clause-behind c =
-    along-behind c.args.cells.now _ c.args.from c.args.stop c.args.low c.args.to (omega (arith, c.requires.before, c.requires.behind)) c.requires.inside c.copy_at_once_higher.new.cells _ _ (some (goal.at.returns-then-n-to-clause-behind c).After-characters_before-run (omega (arith, c.if-at-from.false)))
+    along-behind (some (goal.at.returns-then-n-to-clause-behind c).After-characters_before-run (omega (arith, c.if-at-from.false)))
 
 pub loop-at-preserved : goal.loop-at-preserved
 loop-at-preserved c =
     let at = goal.at.loop-at-preserved c in
     let k = at.After-characters_before-run in
     let i = some k (omega (arith, c.if-at-from.false)) in
-    cell-put c.args.cells.now _ c.args.from c.args.stop c.args.low c.args.to (omega (arith, c.requires.before, c.requires.behind)) c.requires.inside c.copy_at_once_higher.new.cells _ _ i (c.loop-at.at - c.characters_before-run.result - 1) (omega (arith, c.if-at-from.false)) (omega (arith, c.if-at-from.false)) c.put_lifted.new.cells _ _ c.part_numbered-start.result.1 (long at.After-part_numbered-start i.size) (are at.After-part_numbered-start k i) (omega (arith, c.if-n-to.false)) (omega (arith, c.if-n-to.false)) c.put_lifted.ensures.len c.put_lifted.ensures.front c.put_lifted.ensures.put
+    cell-put i (c.loop-at.at - c.characters_before-run.result - 1) (omega (arith, c.if-at-from.false)) (omega (arith, c.if-at-from.false)) c.put_lifted.new.cells _ _ c.part_numbered-start.result.1 (long at.After-part_numbered-start i.size) (are at.After-part_numbered-start k i) (omega (arith, c.if-n-to.false)) (omega (arith, c.if-n-to.false)) c.put_lifted.ensures.len c.put_lifted.ensures.front c.put_lifted.ensures.put
 
-pub fill_each-requires-clause-commas : goal.fill_each-requires-clause-commas
-fill_each-requires-clause-commas c =
-    commas-now c.args.cells.now _ c.args.from c.args.stop c.args.low c.args.to (omega (arith, c.requires.before, c.requires.behind)) c.requires.inside c.loop-at.cells _ _ c.loop-at.invariant c.args.given.start (c.args.given.start + c.args.given.len) c.args.given.commas c.requires.behind c.requires.commas
+pub fill_each-requires-clause-given : goal.fill_each-requires-clause-given
+fill_each-requires-clause-given c =
+    let i = c.loop-at.invariant in
+    record {
+      inside = omega (arith, i.size, c.requires.given.inside);
+      bounded = omega (arith, i.size, c.requires.given.bounded);
+      commas = commas-now i c.args.given.start (c.args.given.start + c.args.given.len) c.args.given.commas c.requires.behind c.requires.given.commas;
+    }
 
 pub returns-clause-put : goal.returns-clause-put
 returns-clause-put c =
@@ -102,13 +110,13 @@ returns-clause-put c =
     let now = c.loop-at.cells in
     let within = i.within in
     let before : c.args.stop ≤ c.args.low = omega (arith, c.requires.before, c.requires.behind) in
-    let part = same-part old _ c.args.from c.args.stop c.args.low c.args.to before c.requires.inside now _ _ i c.args.given.start (c.args.given.start + c.args.given.len) c.requires.behind in
-    let items = same-part old _ c.args.from c.args.stop c.args.low c.args.to before c.requires.inside now _ _ i c.args.from c.loop-at.at (omega (arith, within, before)) in
-    along-rest old _ c.args.from c.args.stop c.args.low c.args.to before c.requires.inside now _ _ i c.fill_each.new.cells c.fill_each.result (rw (part, items) at c.fill_each.ensures.put)
+    let part = same-part i c.args.given.start (c.args.given.start + c.args.given.len) c.requires.behind in
+    let items = same-part i c.args.from c.loop-at.at (omega (arith, within, before)) in
+    along-rest i c.fill_each.new.cells c.fill_each.result (rw (part, items) at c.fill_each.ensures.put)
 
 pub returns-clause-behind : goal.returns-clause-behind
 returns-clause-behind c =
     let long = c.loop-at.invariant.long in
     let e : c.loop-at.to + (c.args.to - c.loop-at.to) ≡ c.args.to = omega (arith, long) in
-    let last = along-behind c.args.cells.now _ c.args.from c.args.stop c.args.low c.args.to (omega (arith, c.requires.before, c.requires.behind)) c.requires.inside c.loop-at.cells _ _ c.loop-at.invariant in
+    let last = along-behind c.loop-at.invariant in
     ap (λ i. drop i c.fill_each.new.cells) (sym e) ∙ sym (drop-drop (c.args.to - c.loop-at.to) c.loop-at.to c.fill_each.new.cells) ∙ ap (drop (c.args.to - c.loop-at.to)) c.fill_each.ensures.behind ∙ drop-drop (c.args.to - c.loop-at.to) c.loop-at.to c.loop-at.cells ∙ ap (λ i. drop i c.loop-at.cells) e ∙ last

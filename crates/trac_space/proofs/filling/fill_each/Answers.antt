@@ -6,19 +6,24 @@ use Rattle.trac_space.proofs.filling.fill_each.Goals.{After-filling_of-start}
 
 pub loop-at-init : goal.loop-at-init
 loop-at-init c =
-    along-start c.args.cells.now _ c.args.from c.args.stop c.args.low c.args.to (omega (arith, c.requires.before, c.requires.behind)) c.requires.inside c.requires.order c.requires.room
+    along-start (omega (arith, c.requires.before, c.requires.behind)) c.requires.inside c.requires.order c.requires.room
 
-pub filling_of-start-requires-clause-commas : goal.filling_of-start-requires-clause-commas
-filling_of-start-requires-clause-commas c =
-    commas-now c.args.cells.now _ c.args.from c.args.stop c.args.low c.args.to (omega (arith, c.requires.before, c.requires.behind)) c.requires.inside c.loop-at.cells c.loop-at.at c.loop-at.to c.loop-at.invariant c.args.given.start (c.args.given.start + c.args.given.len) c.args.given.commas c.requires.behind c.requires.commas
+pub filling_of-start-requires-clause-given : goal.filling_of-start-requires-clause-given
+filling_of-start-requires-clause-given c =
+    let i = c.loop-at.invariant in
+    record {
+      inside = omega (arith, i.size, c.requires.given.inside);
+      bounded = omega (arith, i.size, c.requires.given.bounded);
+      commas = commas-now i c.args.given.start (c.args.given.start + c.args.given.len) c.args.given.commas c.requires.behind c.requires.given.commas;
+    }
 
 -- the cells that are to be put are those that fill the last one
 are : (c : After-filling_of-start) → map under (slice_range c.loop-at.cells c.filling_of-start.result.0 (c.filling_of-start.result.0 + c.filling_of-start.result.1)) ≡ filling (map under (slice_range c.args.cells.now c.args.given.start (c.args.given.start + c.args.given.len))) (slice_index_or c.args.cells.now (c.loop-at.at - 1) Comma)
 are c =
     let old = c.args.cells.now in
     let i = c.loop-at.invariant in
-    let part = same-part old _ c.args.from c.args.stop c.args.low c.args.to (omega (arith, c.requires.before, c.requires.behind)) c.requires.inside c.loop-at.cells c.loop-at.at c.loop-at.to i c.args.given.start (c.args.given.start + c.args.given.len) c.requires.behind in
-    let cell = same-cell old _ c.args.from c.args.stop c.args.low c.args.to (omega (arith, c.requires.before, c.requires.behind)) c.requires.inside c.loop-at.cells c.loop-at.at c.loop-at.to i (c.loop-at.at - 1) Comma (omega (arith, c.requires.before, c.requires.behind, i.within, c.loop-at-test.true)) in
+    let part = same-part i c.args.given.start (c.args.given.start + c.args.given.len) c.requires.behind in
+    let cell = same-cell i (c.loop-at.at - 1) Comma (omega (arith, c.requires.before, c.requires.behind, i.within, c.loop-at-test.true)) in
     c.filling_of-start.ensures.cells
     ∙ ap (λ cells. filling (map under cells) (slice_index_or c.loop-at.cells (c.loop-at.at - 1) Comma)) part
     ∙ ap (filling (map under (slice_range old c.args.given.start (c.args.given.start + c.args.given.len)))) cell
@@ -33,21 +38,21 @@ long c =
 pub loop-at-preserved : goal.loop-at-preserved
 loop-at-preserved c =
     let k = (goal.at.loop-at-preserved c).After-filling_of-start in
-    cell-put c.args.cells.now _ c.args.from c.args.stop c.args.low c.args.to (omega (arith, c.requires.before, c.requires.behind)) c.requires.inside c.loop-at.cells c.loop-at.at c.loop-at.to c.loop-at.invariant (c.loop-at.at - 1) (omega (arith, c.loop-at-test.true)) (omega (arith, c.loop-at-test.true)) c.put_lifted.new.cells _ _ c.filling_of-start.result.1 (long k) (are k) (omega (arith, c.if-n-to.false)) (omega (arith, c.if-n-to.false)) c.put_lifted.ensures.len c.put_lifted.ensures.front c.put_lifted.ensures.put
+    cell-put c.loop-at.invariant (c.loop-at.at - 1) (omega (arith, c.loop-at-test.true)) (omega (arith, c.loop-at-test.true)) c.put_lifted.new.cells _ _ c.filling_of-start.result.1 (long k) (are k) (omega (arith, c.if-n-to.false)) (omega (arith, c.if-n-to.false)) c.put_lifted.ensures.len c.put_lifted.ensures.front c.put_lifted.ensures.put
 
 pub returns-then-n-to-clause-put : goal.returns-then-n-to-clause-put
 returns-then-n-to-clause-put c =
     let k = (goal.at.returns-then-n-to-clause-put c).After-filling_of-start in
-    cell-full c.args.cells.now _ c.args.from c.args.stop c.args.low c.args.to (omega (arith, c.requires.before, c.requires.behind)) c.requires.inside c.loop-at.cells c.loop-at.at c.loop-at.to c.loop-at.invariant (c.loop-at.at - 1) (omega (arith, c.loop-at-test.true)) (omega (arith, c.loop-at-test.true)) _ c.filling_of-start.result.1 (long k) (are k) (omega (arith, c.if-n-to.true))
+    cell-full c.loop-at.invariant (c.loop-at.at - 1) (omega (arith, c.loop-at-test.true)) (omega (arith, c.loop-at-test.true)) _ c.filling_of-start.result.1 (long k) (are k) (omega (arith, c.if-n-to.true))
 
 pub returns-then-n-to-clause-behind : goal.returns-then-n-to-clause-behind
 returns-then-n-to-clause-behind c =
-    along-behind c.args.cells.now _ c.args.from c.args.stop c.args.low c.args.to (omega (arith, c.requires.before, c.requires.behind)) c.requires.inside c.loop-at.cells c.loop-at.at c.loop-at.to c.loop-at.invariant
+    along-behind c.loop-at.invariant
 
 pub returns-clause-put : goal.returns-clause-put
 returns-clause-put c =
-    along-end c.args.cells.now _ c.args.from c.args.stop c.args.low c.args.to (omega (arith, c.requires.before, c.requires.behind)) c.requires.inside c.loop-at.cells c.loop-at.at c.loop-at.to c.loop-at.invariant (omega (arith, c.loop-at.invariant.order, c.loop-at-test.false))
+    along-end c.loop-at.invariant (omega (arith, c.loop-at.invariant.order, c.loop-at-test.false))
 
 pub returns-clause-behind : goal.returns-clause-behind
 returns-clause-behind c =
-    along-behind c.args.cells.now _ c.args.from c.args.stop c.args.low c.args.to (omega (arith, c.requires.before, c.requires.behind)) c.requires.inside c.loop-at.cells c.loop-at.at c.loop-at.to c.loop-at.invariant
+    along-behind c.loop-at.invariant

@@ -1,29 +1,26 @@
-use Rattle.trac_space.proofs.Imports.{ℕ, drop, ◌≤◌, List, Cell, put_mid, ◌≡◌, ◌⊎◌, ◌+◌, ◌-◌, ◌∙◌, ap, sym, arith, refl, inl, inr, length, map, take, ◌++◌, slice_range, length-between, ⊎_elim, cases_lt, copy_within}
+use Rattle.trac_space.proofs.Imports.{ℕ, drop, ◌≤◌, List, Cell, put_mid, ◌≡◌, ◌⊎◌, ◌+◌, ◌-◌, ◌∙◌, ap, sym, arith, refl, inl, inr, length, map, take, ◌++◌, slice_range, length-between, ⊎_elim, cases_lt}
 use Rattle.trac_space.specs.Overlay.{under}
 use Rattle.trac_space.proofs.Filled.{copied-low, copied-all, put-lifted, others-less}
 use Rattle.trac_space.proofs.filling.put_lifted.Goals as goal
-use Rattle.trac_space.proofs.filling.put_lifted.Goals.{After-copy_short_higher}
-
-copied : (c : After-copy_short_higher) → c.copy_short_higher.new.cells ≡ copy_within c.args.cells.now c.args.start (c.args.start + c.args.n) c.args.to
-copied c = c.copy_short_higher.ensures.after c.args.to (sym c.distance.ensures)
+use Rattle.trac_space.proofs.filling.put_lifted.Goals.{After-copy_short}
 
 -- the first of them are lifted, and the others have no numbers
-both : (c : After-copy_short_higher) (m : ℕ) → (m ≡ c.args.given.start + c.args.given.commas - c.args.start) ⊎ (m ≡ c.args.n) → m ≤ c.args.n → (lifted : List Cell) → lifted ≡ map under (take (c.args.to + m - c.args.to) (drop c.args.to c.copy_short_higher.new.cells)) → (take c.args.to (put_mid c.args.to (c.args.to + m - c.args.to) c.copy_short_higher.new.cells lifted) ≡ take c.args.to c.args.cells.now) × (drop c.args.to (put_mid c.args.to (c.args.to + m - c.args.to) c.copy_short_higher.new.cells lifted) ≡ map under (slice_range c.args.cells.now c.args.start (c.args.start + c.args.n)) ++ drop (c.args.to + c.args.n) c.args.cells.now)
+both : (c : After-copy_short) (m : ℕ) → (m ≡ c.args.given.start + c.args.given.commas - c.args.start) ⊎ (m ≡ c.args.n) → m ≤ c.args.n → (lifted : List Cell) → lifted ≡ map under (take (c.args.to + m - c.args.to) (drop c.args.to c.copy_short.new.cells)) → (take c.args.to (put_mid c.args.to (c.args.to + m - c.args.to) c.copy_short.new.cells lifted) ≡ take c.args.to c.args.cells.now) × (drop c.args.to (put_mid c.args.to (c.args.to + m - c.args.to) c.copy_short.new.cells lifted) ≡ map under (slice_range c.args.cells.now c.args.start (c.args.start + c.args.n)) ++ drop (c.args.to + c.args.n) c.args.cells.now)
 both c m which few lifted is =
     let long : length (slice_range c.args.cells.now c.args.start (c.args.start + c.args.n)) ≡ c.args.n = omega (arith, length-between c.args.cells.now c.args.start (c.args.start + c.args.n) (omega (arith, c.requires.apart, c.requires.room))) in
     let others = others-less _ c.args.n (c.args.given.start + c.args.given.commas - c.args.start) m long which c.requires.others in
-    put-lifted c.args.cells.now c.copy_short_higher.new.cells _ lifted c.args.start c.args.to c.args.n m c.requires.apart c.requires.room few (copied c) is refl others
+    put-lifted c.args.cells.now c.copy_short.new.cells _ lifted c.args.start c.args.to c.args.n m c.requires.apart c.requires.room few c.copy_short.ensures.after is refl others
 
 pub returns-clause-front : goal.returns-clause-front
 returns-clause-front c =
-    let k = (goal.at.returns-clause-front c).After-copy_short_higher in
+    let k = (goal.at.returns-clause-front c).After-copy_short in
     let laid = c.args.given.start + c.args.given.commas - c.args.start in
     let which : (c.min.result ≡ laid) ⊎ (c.min.result ≡ c.args.n) = ⊎_elim (λ less. inr (omega (arith, c.min.ensures, less))) (λ more. inl (omega (arith, c.min.ensures, more))) (cases_lt c.args.n laid) in
     (both k c.min.result which (omega (arith, c.min.ensures)) c.lift.new.cells c.lift.ensures).0
 
 pub returns-clause-put : goal.returns-clause-put
 returns-clause-put c =
-    let k = (goal.at.returns-clause-put c).After-copy_short_higher in
+    let k = (goal.at.returns-clause-put c).After-copy_short in
     let laid = c.args.given.start + c.args.given.commas - c.args.start in
     let which : (c.min.result ≡ laid) ⊎ (c.min.result ≡ c.args.n) = ⊎_elim (λ less. inr (omega (arith, c.min.ensures, less))) (λ more. inl (omega (arith, c.min.ensures, more))) (cases_lt c.args.n laid) in
     (both k c.min.result which (omega (arith, c.min.ensures)) c.lift.new.cells c.lift.ensures).1

@@ -6,7 +6,7 @@ use Rattle.clap.specs.Words.{NarrowsTo, rule_of, with_rule}
 use Rattle.clap.specs.declared.builder.arg.Arg.{Arg}
 use Rattle.clap.specs.declared.builder.value_parser.ValueParser.{ValueParser}
 use Rattle.clap.specs.declared.builder.value_parser.ValueParser.TheVariants as parser
-use Rattle.trac_words.specs.CommandLine.{number_option}
+use Rattle.trac_command.specs.CommandLine.{number_option}
 use Rattle.trac_trace.specs.CommandLine.{calls_flag, forms_flag, from_option, last_option, to_option, views_command, warn_flag, width_option, columns_option}
 use Rattle.trac_trace.proofs.words.command.Goals as goal
 

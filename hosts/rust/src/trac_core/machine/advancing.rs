@@ -1,9 +1,9 @@
 // Generated from crates/trac_core/src/machine/advancing.rt by hosts/rust/generate, and never edited.
-//! Steps that need no device, as many as follow one another.
+//! Steps, as many as follow one another.
 
 use super::{Counters, Machine, ended};
-use crate::trac_core::call::perform_pending_alone;
 use crate::trac_core::idling::{IDLING_STEPS, begin_idling, may_begin_idling};
+use crate::trac_core::performer::{Alone, Performer};
 use crate::trac_core::run_hints::RunHints;
 use crate::trac_core::scan::{Pending, scan_steps};
 use crate::trac_forms::Work;
@@ -14,8 +14,8 @@ use crate::trac_language::{Fate, Function, Report};
 pub struct Progress {
     /// The steps that were done and after which the run went on.
     pub done: u64,
-    /// The function of the call that it stopped before, which reads or prints. `None` where it
-    /// stopped for another reason.
+    /// The function of the call that it stopped before, which reads or prints. `None` where it stopped
+    /// before a call of no function, or for another reason.
     pub next: Option<Function>,
 }
 
@@ -33,9 +33,10 @@ pub(super) struct Advance {
 
 impl<'a> Machine<'a> {
     /// Makes at most `most` steps, as `step` does, but none that needs a device: it stops before a
-    /// call of `rs`, `rc` or `pf`, and before one of `ps` whose text isn't null. Gives how many steps were done
-    /// after which the run went on. They are fewer than `most` only if it stopped there, the allowance
-    /// is used up, or the next step ended the run, by `hl` or since it needs more than the room. With
+    /// call of `rs`, `rc` or `pf`, before one of `ps` whose text isn't null, and before one whose name is no
+    /// function if `stop_at_unknown` asked for that. Gives how many steps were done after which the run went on.
+    /// They are fewer than `most` only if it stopped there, the allowance is used up, or the next step
+    /// ended the run, by `hl` or since it needs more than the room. With
     /// the allowance used up, the next call of `step` ends the run. Where the run is over before,
     /// nothing is done. This processor's own choice.
     pub fn advance(&mut self, most: u64) -> Progress
@@ -46,12 +47,37 @@ impl<'a> Machine<'a> {
                 next: None,
             };
         }
+        let performer = Alone { stops: self.stops };
+        self.drive(performer, most, &mut (), &mut ())
+    }
+
+    /// Makes at most `most` steps of a run that isn't over, whose calls this performer performs. They are
+    /// fewer only if it declined a call, the allowance is used up, or the next step ended the run.
+    #[inline(always)]
+    pub(super) fn drive<I, O, P: Performer<I, O>>(
+        &mut self,
+        performer: P,
+        most: u64,
+        source: &mut I,
+        sink: &mut O,
+    ) -> Progress
+    {
         let at = Counters {
             allowance: self.allowance,
             steps: self.steps,
             peak: self.peak,
         };
-        let to = go_alone(&mut self.work, &mut self.meta, self.plain, at, most);
+        let plain = self.plain;
+        let to = go_on(
+            &mut self.work,
+            &mut self.meta,
+            plain,
+            at,
+            most,
+            performer,
+            source,
+            sink,
+        );
         self.steps = to.steps;
         self.peak = to.peak;
         self.fate = to.fate;
@@ -60,15 +86,25 @@ impl<'a> Machine<'a> {
     }
 }
 
-/// Makes at most `most` steps that need no device, of a run that isn't over and has these counters.
-/// They are single values here, so that they need not stand in memory. From the plain place on no
+/// Makes at most `most` steps of a run that isn't over and has these counters. They are single values
+/// here, and no part of a machine, so that they need not stand in memory. From the plain place on no
 /// comma mark stands in the neutral string.
 #[inline(never)]
-fn go_alone(work: &mut Work, meta: &mut u8, plain: u32, at: Counters, most: u64) -> Advance
+fn go_on<I, O, P: Performer<I, O>>(
+    work: &mut Work,
+    meta: &mut u8,
+    plain: u32,
+    at: Counters,
+    most: u64,
+    performer: P,
+    source: &mut I,
+    sink: &mut O,
+) -> Advance
 {
     let reach = most.min(at.allowance - at.steps);
     let mut left = reach;
     let mut peak = at.peak;
+    // The cells of the first step since a call: those that perform none need no more than it does.
     let mut need = work.used();
     let mut hints = RunHints::new(plain);
     while left > 0 {
@@ -84,7 +120,7 @@ fn go_alone(work: &mut Work, meta: &mut u8, plain: u32, at: Counters, most: u64)
                 hints = RunHints::new(work.neutral_len());
             }
             Err(pending) => {
-                let last = match perform_pending_alone(work, pending, meta) {
+                let last = match performer.perform(work, pending, meta, source, sink) {
                     Ok(last) => last,
                     Err(function) => return going(reach - left, function, hints, at.steps, peak),
                 };

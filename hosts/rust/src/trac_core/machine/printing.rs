@@ -1,11 +1,15 @@
 // Generated from crates/trac_core/src/machine/printing.rt by hosts/rust/generate, and never edited.
-//! How many bytes the next step of a machine prints.
+//! What the next step of a machine prints: how many bytes, and the step without them.
 
 use super::Machine;
+use super::changing::Refused;
 use super::closing::{closed_call, named_at};
+use crate::trac_core::attempt::Attempt;
+use crate::trac_core::delivery::finish_call;
 use crate::trac_core::display::display_len;
 use crate::trac_core::scan::InnermostCall;
 use crate::trac_forms::Work;
+use crate::trac_functions::arguments::CallResult;
 use crate::trac_language::Function;
 use crate::trac_space::Part;
 
@@ -34,6 +38,51 @@ impl<'a> Machine<'a> {
             None
         }
     }
+}
+
+impl<'a> Machine<'a> {
+    /// Makes the next step, which prints, and drops what it prints: a host that took it in pieces goes on so.
+    /// `Refused`, with nothing changed, where that step prints nothing, the run is over, or the allowance is
+    /// used up. This processor's own choice.
+    pub fn skip_print(&mut self) -> Result<(), Refused>
+    {
+        let function = self.next_function();
+        if !prints(function) {
+            return Err(Refused);
+        }
+        let Some(attempt) = skip_printing(&mut self.work, self.plain) else {
+            return Err(Refused);
+        };
+        self.plain = self.work.neutral_len();
+        self.count(attempt);
+        Ok(())
+    }
+}
+
+/// Makes a step that performs a call of a function that prints, and drops what it prints. None, with nothing changed,
+/// where it prints nothing. From the plain place on no comma mark stands in the neutral string.
+fn skip_printing(work: &mut Work, plain: u32) -> Option<Attempt>
+{
+    if printed_len(work, plain) == 0 {
+        return None;
+    }
+    let Some(place) = closed_call(work) else {
+        return None;
+    };
+    Some(end_printing(work, place))
+}
+
+/// Deletes the right parenthesis that ends the innermost call, which prints, and has the call leave with its null
+/// value.
+fn end_printing(work: &mut Work, place: u32) -> Attempt
+{
+    work.drop_active(1);
+    let before = work.used();
+    let call = Part {
+        from: place,
+        to: work.neutral_len(),
+    };
+    finish_call(work, call, before, CallResult::Null(0))
 }
 
 /// Whether a call of the function prints.

@@ -19,7 +19,7 @@ returns-then-is_some-clause-limits g c =
 pub returns-in_default-clause-answers : goal.returns-in_default-clause-answers
 returns-in_default-clause-answers g c = λ not_over told_source told_sink.
     let i = c.self.inside in
-    let m : MachineState = record { memory = memory_of i.meta i.work; room = i.work.room; allowance = i.allowance; steps = i.steps; peak = i.peak; fate = i.fate } in
+    let m : MachineState = record { memory = memory_of i.meta i.work; room = i.work.room; allowance = i.allowance; steps = i.steps; peak = i.peak; fate = i.fate; stops = i.stops } in
     let allowed : i.steps < i.allowance = omega (arith, c.self.invariant.0, c.if-self.false) in
     rw (← c.self.view_is, c.count-in_default.ensures.answer, c.count-in_default.ensures.after, c.scan_once.ensures.keeps.room)
     (tried-passed i.work c.scan_once.new.work 1 c.used-need.result c.in_default.ensures.comes refl c.self.invariant.2 c.used-need.ensures.value i.meta _ _ m refl refl allowed)
@@ -31,7 +31,7 @@ returns-in_default-clause-takes g c = λ told.
 pub returns-clause-answers : goal.returns-clause-answers
 returns-clause-answers g c = λ not_over told_source told_sink.
     let i = c.self.inside in
-    let m : MachineState = record { memory = memory_of i.meta i.work; room = i.work.room; allowance = i.allowance; steps = i.steps; peak = i.peak; fate = i.fate } in
+    let m : MachineState = record { memory = memory_of i.meta i.work; room = i.work.room; allowance = i.allowance; steps = i.steps; peak = i.peak; fate = i.fate; stops = i.stops } in
     let allowed : i.steps < i.allowance = omega (arith, c.self.invariant.0, c.if-self.false) in
     let same = c.in-Some.ensures.comes.0 in
     rw (← c.self.view_is, c.count-2.ensures.answer, c.count-2.ensures.after, c.perform_pending-attempt.ensures.keeps.room, c.scan_once.ensures.keeps.room)

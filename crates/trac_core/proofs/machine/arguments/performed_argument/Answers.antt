@@ -6,11 +6,11 @@ use Rattle.trac_core.proofs.ListedTexts.{get-none, get-first}
 use Rattle.trac_core.proofs.Performed.{texts-innermost, uncalled-texts}
 use Rattle.trac_core.proofs.machine.arguments.performed_argument.Goals as goal
 
-pub returns-in_default : goal.returns-in_default
-returns-in_default c = λ meta. ap (λ texts. slice_get texts c.args.which) (uncalled-texts (memory_of meta c.args.work.now) (c.in_default.ensures.call meta))
+pub returns-in_default-clause-argument : goal.returns-in_default-clause-argument
+returns-in_default-clause-argument c = λ meta. ap (λ texts. slice_get texts c.args.which) (uncalled-texts (memory_of meta c.args.work.now) (c.in_default.ensures.call meta))
 
-pub returns-then-is_empty : goal.returns-then-is_empty
-returns-then-is_empty c = λ meta.
+pub returns-then-is_empty-clause-argument : goal.returns-then-is_empty-clause-argument
+returns-then-is_empty-clause-argument c = λ meta.
     let closed = c.in-Some.ensures.call in
     let l = c.loop-before in
     let w = c.args.work.now in
@@ -24,8 +24,8 @@ loop-before-preserved c =
     let l = c.loop-before in
     (c.next.ensures.left, c.next.ensures.rest ∙ ap (drop 1) l.invariant.1 ∙ drop-drop 1 l._before (arguments_at c.args.work.now.neutral c.in-Some.place))
 
-pub returns-then-is_empty-2 : goal.returns-then-is_empty-2
-returns-then-is_empty-2 c = λ meta.
+pub returns-then-is_empty-2-clause-argument : goal.returns-then-is_empty-2-clause-argument
+returns-then-is_empty-2-clause-argument c = λ meta.
     let closed = c.in-Some.ensures.call in
     let l = c.loop-before in
     let w = c.args.work.now in
@@ -34,8 +34,8 @@ returns-then-is_empty-2 c = λ meta.
     ap (λ texts. slice_get texts c.args.which) (texts-innermost w c.in-Some.place meta closed.0 closed.1)
     ∙ get-none (arguments_at w.neutral c.in-Some.place) l._before c.args.which none (omega arith)
 
-pub returns : goal.returns
-returns c = λ meta.
+pub returns-clause-argument : goal.returns-clause-argument
+returns-clause-argument c = λ meta.
     let closed = c.in-Some.ensures.call in
     let l = c.loop-before in
     let w = c.args.work.now in

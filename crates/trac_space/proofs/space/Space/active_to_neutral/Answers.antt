@@ -9,7 +9,7 @@ returns c =
     let s = c.self.inside in
     let size = sizes c.self.invariant c.self.view_is in
     let p = parts_of s in
-    let moved = parts-to_neutral c.self.invariant c.args.n _ (omega arith) c.copy_mostly_one.ensures.after in
+    let moved = parts-to_neutral c.self.invariant c.args.n _ (omega arith) c.copy_cells.ensures.after in
     let left = seen-drop_active (record p { neutral = p.neutral ++ take c.args.n p.right }) s.active c.args.n (omega arith) in
     record { moved = rw (← c.self.view_is) (shown _ moved ∙ left ∙ simp (map-append, front-seen p.right s.active c.args.n (omega arith))) }
 
@@ -19,6 +19,6 @@ invariant_of-self c =
     let h = c.self.invariant in
     let size = sizes h c.self.view_is in
     let right = (parts_of c.self.inside).right in
-    let moved = parts-to_neutral h c.args.n _ (omega arith) c.copy_mostly_one.ensures.after in
+    let moved = parts-to_neutral h c.args.n _ (omega arith) c.copy_cells.ensures.after in
     laid-more _ h moved refl (omega arith) (omega arith) (take c.args.n right) refl refl
     (rw (front-seen right c.self.inside.active c.args.n (omega arith)) at (rw (← c.self.view_is) at c.requires.no_call))

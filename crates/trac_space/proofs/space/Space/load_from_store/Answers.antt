@@ -9,7 +9,7 @@ returns c =
     let h = c.self.invariant in
     let size = sizes h c.self.view_is in
     let end : c.args.a + (c.args.b - c.args.a) ≡ c.args.b = omega arith in
-    let moved = parts-before h c.args.a c.args.b (c.args.b - c.args.a) _ (omega arith) (omega arith) (omega arith) (c.copy_apart_higher.ensures.after ∙ ap (λ j. copy_within s.cells.now c.args.a j (s.end - (s.active + (c.args.b - c.args.a)))) end) in
+    let moved = parts-before h c.args.a c.args.b (c.args.b - c.args.a) _ (omega arith) (omega arith) (omega arith) (c.copy_apart.ensures.after ∙ ap (λ j. copy_within s.cells.now c.args.a j (s.end - (s.active + (c.args.b - c.args.a)))) end) in
     let part = slice_range s.cells.now c.args.a c.args.b in
     let seen_part = ap (map seen) (store-part h c.args.a c.args.b (omega arith) (omega arith)) in
     rw (← c.self.view_is)
@@ -24,5 +24,5 @@ invariant_of-self c =
     let h = c.self.invariant in
     let size = sizes h c.self.view_is in
     let end : c.args.a + (c.args.b - c.args.a) ≡ c.args.b = omega arith in
-    let moved = parts-before h c.args.a c.args.b (c.args.b - c.args.a) _ (omega arith) (omega arith) (omega arith) (c.copy_apart_higher.ensures.after ∙ ap (λ j. copy_within s.cells.now c.args.a j (s.end - (s.active + (c.args.b - c.args.a)))) end) in
+    let moved = parts-before h c.args.a c.args.b (c.args.b - c.args.a) _ (omega arith) (omega arith) (omega arith) (c.copy_apart.ensures.after ∙ ap (λ j. copy_within s.cells.now c.args.a j (s.end - (s.active + (c.args.b - c.args.a)))) end) in
     laid _ h moved refl (omega arith) (omega arith) h.calls h.linked

@@ -6,7 +6,7 @@ pub returns : goal.returns
 returns c =
     let size = sizes c.self.invariant c.self.view_is in
     let end : c.self.inside.store + c.args.a + (c.args.b - c.args.a) ≡ c.self.inside.store + c.args.b = omega arith in
-    let moved = parts-over c.self.invariant c.args.at c.args.a c.args.b _ c.requires.order (omega arith) (omega arith) (rw end at c.copy_apart_lower.ensures.after) in
+    let moved = parts-over c.self.invariant c.args.at c.args.a c.args.b _ c.requires.order (omega arith) (omega arith) (rw end at c.copy_apart.ensures.after) in
     rw (← c.self.view_is) (shown _ moved ∙ simp maps)
 
 -- neutral is as it was
@@ -15,5 +15,5 @@ invariant_of-self c =
     let h = c.self.invariant in
     let size = sizes h c.self.view_is in
     let end : c.self.inside.store + c.args.a + (c.args.b - c.args.a) ≡ c.self.inside.store + c.args.b = omega arith in
-    let moved = parts-over h c.args.at c.args.a c.args.b _ c.requires.order (omega arith) (omega arith) (rw end at c.copy_apart_lower.ensures.after) in
+    let moved = parts-over h c.args.at c.args.a c.args.b _ c.requires.order (omega arith) (omega arith) (rw end at c.copy_apart.ensures.after) in
     laid _ h moved refl (omega arith) (omega arith) h.calls h.linked

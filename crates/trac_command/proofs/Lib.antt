@@ -1,0 +1,4 @@
+pub mod OneLine
+pub mod WrittenLines
+pub mod PlaceReads
+pub mod Commands

@@ -1,0 +1,8 @@
+use Rattle.trac_core.proofs.Imports.{arith}
+use Rattle.trac_functions.proofs.FlatLemmas.{size-used}
+use Rattle.trac_core.proofs.machine.Machine.define_text.Goals as goal
+
+pub returns-in_default-clause-limits : goal.returns-in_default-clause-limits
+returns-in_default-clause-limits c =
+    let i = c.self.inside in
+    rw (← c.self.view_is) (record { cells = omega (arith, size-used i.meta i.work); steps = omega arith; peak = omega arith })

@@ -1,0 +1,96 @@
+-- Steps whose calls a performer performs, which may decline one.
+use Rattle.std.specs.Prelude.{◌≡◌, ◌≢◌, ℕ, ◌+◌, ◌-◌, ◌<◌, ◌≤◌, zero, suc, ◌⊎◌, ◌++◌, length, Option, Some}
+use Rattle.std.specs.Prelude.{None}
+use Rattle.trac_language.specs.declared.fate.Fate.{Fate}
+use Rattle.trac_language.specs.declared.fate.Fate.TheVariants.{Steps}
+use Rattle.trac_language.specs.declared.function.Function.{Function}
+use Rattle.trac_language.specs.Text.{Text}
+use Rattle.trac_language.specs.State.{Memory, size}
+use Rattle.trac_devices.specs.Devices.{Stream}
+use Rattle.trac_forms.specs.Contents.{Contents}
+use Rattle.trac_functions.specs.Flat.{memory_of}
+use Rattle.trac_core.specs.Performed.{performs}
+use Rattle.trac_core.specs.Attempts.{LeavesSource, LeavesSink}
+use Rattle.trac_core.specs.Machine.{MachineState, moment, counted, Answers, KeepsSettings, KeepsFormsAndMeta}
+use Rattle.trac_core.specs.Advancing.{StepsAlone, EndsAlone}
+
+-- a machine between the source and the sink that its performer has
+pub record Standing (I O : Type 0) : Type 0 where
+  pub machine : MachineState
+  pub source : I
+  pub sink : O
+
+abbrev pub standing : {I O : Type 0} → MachineState → I → O → Standing I O
+standing machine source sink = record { machine = machine; source = source; sink = sink }
+
+module _ {I O : Type 0} (performed : Standing I O → Option Fate → Standing I O → Type 0) where
+  -- the step was performed that each machine makes which holds the contents `old` and may step, once
+  -- `needed` cells are counted
+  abbrev pub PerformedFor :
+      Option Fate → (needed : ℕ) → (old : Contents) → (meta : ℕ) → I → O → (new : Contents) →
+      (after : ℕ) → I → O → Type 0
+  PerformedFor fate needed old meta source sink new after source_after sink_after =
+      (m : MachineState) → m.room ≡ old.room → m.memory ≡ memory_of meta old →
+      m.steps < m.allowance →
+      performed (standing m source sink) fate
+      (standing (counted m (memory_of after new) needed fate) source_after sink_after)
+
+  -- one step more: it performs no call and needs no device, or its call was performed
+  abbrev pub StepsBy : (old new : Standing I O) → Type 0
+  StepsBy old new =
+      (StepsAlone old.machine new.machine × (new ≡ standing new.machine old.source old.sink))
+      ⊎ (KeepsSettings old.machine new.machine × performed old None new)
+
+  -- n steps lead from `old` to `new`
+  abbrev pub GoesBy : ℕ → (old new : Standing I O) → Type 0
+  GoesBy zero old new = new ≡ old
+  GoesBy (suc n) old new = (middle : Standing I O) × (GoesBy n old middle × StepsBy middle new)
+
+  -- why no more than n steps were done: these are as many as are wanted, or the next one is not allowed or
+  -- was declined, or it ended the run
+  abbrev pub StopsBy :
+      (declines : Memory → Type 0) → (most n : ℕ) → (before : Standing I O) → Option Fate →
+      (new : Standing I O) → Type 0
+  StopsBy declines most n before None new =
+      (new ≡ before) × ((n ≡ most)
+      ⊎ ((before.machine.steps ≡ before.machine.allowance) ⊎ declines before.machine.memory))
+  StopsBy declines most n before (Some fate) new =
+      (n < most) × performed before (Some fate) new
+
+  -- n steps lead on from `old`, and there is a reason for no more of them
+  abbrev pub Driven : (declines : Memory → Type 0) → (most n : ℕ) → (old new : Standing I O) → Type 0
+  Driven declines most n old new =
+      (before : Standing I O) × (GoesBy n old before
+      × StopsBy declines most n before new.machine.fate new)
+
+-- the next step performs this function, if any, and was declined: nothing is done
+pub record Declined {I O : Type 0} (declines : Memory → Type 0) (function : Option Function)
+    (old : Contents) (meta : ℕ) (source : I) (sink : O) (new : Contents) (after : ℕ)
+    (source_after : I) (sink_after : O) : Type 0 where
+  pub next : performs (memory_of meta old) ≡ function
+  pub declined : declines (memory_of meta old)
+  pub contents : new ≡ old
+  pub same_meta : after ≡ meta
+  pub same_source : source_after ≡ source
+  pub same_sink : sink_after ≡ sink
+
+-- a step that needs no device, and at which no turn stops, was performed
+abbrev pub PerformedAlone : MachineState → Option Fate → MachineState → Type 0
+PerformedAlone old None new = StepsAlone old new
+PerformedAlone old (Some fate) new = EndsAlone old fate new
+
+-- a step was performed with a source and a sink
+pub record PerformedWith {I O L : Type 0} (tells : I → Type 0) (stream : I → Stream) (failures : I → ℕ)
+    (told flushed : O → Type 0) (written : O → Text) (lent : O → L) (broken : O → ℕ)
+    (old : Standing I O) (fate : Option Fate) (new : Standing I O) : Type 0 where
+  pub answers : tells old.source → told old.sink →
+      Answers (moment old.machine (stream old.source) (written old.sink)) fate
+      (moment new.machine (stream new.source) (written new.sink))
+  pub takes : tells old.source →
+      (taken : Text) × (((stream old.source).bytes ≡ taken ++ (stream new.source).bytes)
+      × (length taken ≤ old.machine.room - size old.machine.memory + 2))
+  pub source : LeavesSource tells failures fate (performs old.machine.memory) old.source new.source
+  pub sink :
+      LeavesSink told flushed written lent broken fate (performs old.machine.memory) old.sink new.sink
+  pub unspent : fate ≢ Some Steps
+  pub keeps : fate ≢ None → KeepsFormsAndMeta old.machine.memory new.machine.memory

@@ -1,0 +1,121 @@
+//! What performs the calls that the scanner comes to: all of them, with a source and a sink, or those
+//! that need neither.
+ghost use Rattle.std.specs.Prelude.{◌≡◌, ◌-◌, ◌<◌, ◌≤◌, ◌^◌, ◌⊎◌, ⊤, true, Option, None, IfOk, MatchResult};
+ghost use Rattle.trac_language.specs.State.{Memory};
+ghost use Rattle.trac_language.specs.declared.fate.Fate.{Fate};
+ghost use Rattle.trac_forms.specs.Contents.{IsSound};
+ghost use Rattle.trac_functions.specs.Calls.{KeepsRoom};
+ghost use Rattle.trac_core.specs.StepsInRow.{AsksFor};
+ghost use Rattle.trac_core.specs.Performed.{needs_device};
+ghost use Rattle.trac_core.specs.OpenCalls.{stops_at};
+ghost use Rattle.trac_core.specs.Driving.{Standing, PerformedFor, Declined, PerformedAlone, PerformedWith};
+
+use crate::attempt::Attempt;
+use crate::call::{asks_host, named, needs_device, perform_alone, perform_pending};
+use crate::idling::load_idling;
+use crate::scan::Pending;
+use trac_devices::{Sink, Source};
+use trac_forms::Work;
+use trac_language::Function;
+
+/// Makes the steps that perform a call or load the idling procedure. It may decline one.
+pub(crate) trait Performer<I, O>: Copy {
+    /// That the source and the sink may be called.
+    ghost ready: { I → O → Type 0 };
+
+    /// That a step led from a machine and its devices to these, and ended the run with this fate, or with none.
+    ghost performed: { Self → Standing I O → Option Fate → Standing I O → Type 0 };
+
+    /// That the call is declined which the next step over a memory performs.
+    ghost declines: { Self → Memory → Type 0 };
+
+    /// Makes the step that the beginning of the active string asks for. An error is the function of the
+    /// call that is declined, if it names one: then nothing is done.
+    fn perform(
+        self,
+        work: &mut Work,
+        pending: Pending,
+        meta: &mut u8,
+        source: &mut I,
+        sink: &mut O,
+    ) -> Result<Attempt, Option<Function>>
+        requires ready { ready source.old sink.old }
+        requires sound { IsSound work.old }
+        requires asks { AsksFor pending work.old }
+        ensures done { MatchResult result
+            (λ attempt. PerformedFor (performed self) attempt.fate attempt.need work.old meta.old
+            source.old sink.old work.new meta.new source.new sink.new)
+            (λ function. Declined (declines self) function work.old meta.old source.old sink.old
+            work.new meta.new source.new sink.new) }
+        ensures ready { IfOk result (λ attempt. attempt.fate ≡ None → ready source.new sink.new) }
+        ensures fits { IfOk result (λ attempt. attempt.need ≤ work.old.room) }
+        ensures keeps { KeepsRoom work.old work.new };
+}
+
+/// Performs each call. Those that read or print use the source and the sink.
+#[derive(Clone, Copy)]
+pub(crate) struct WithDevices;
+
+impl<I: Source, O: Sink> Performer<I, O> for WithDevices {
+    ghost ready = { λ source sink.
+        (I.failure_count source < 2 ^ 64 - 1) × (O.failure_count sink < 2 ^ 64 - 1) };
+
+    ghost performed = { λ performer. PerformedWith I.tells I.stream I.failure_count O.tells O.flushed
+        O.written O.lent O.failure_count };
+
+    ghost declines = { λ performer memory. ⊥ };
+
+    #[inline(always)]
+    fn perform(
+        self,
+        work: &mut Work,
+        pending: Pending,
+        meta: &mut u8,
+        source: &mut I,
+        sink: &mut O,
+    ) -> Result<Attempt, Option<Function>> {
+        Ok(perform_pending(work, pending, meta, source, sink))
+    }
+}
+
+/// Performs the calls that need no device, and declines the others.
+#[derive(Clone, Copy)]
+pub(crate) struct Alone {
+    /// Whether it declines a call whose name is no function, too.
+    pub(crate) stops: bool,
+}
+
+impl Performer<(), ()> for Alone {
+    ghost ready = { λ source sink. ⊤ };
+
+    ghost performed = { λ performer old fate new. old.machine.stops ≡ performer.stops →
+        PerformedAlone old.machine fate new.machine };
+
+    ghost declines = { λ performer memory.
+        (needs_device memory ≡ true) ⊎ (stops_at performer.stops memory ≡ true) };
+
+    #[inline(always)]
+    fn perform(
+        self,
+        work: &mut Work,
+        pending: Pending,
+        meta: &mut u8,
+        _source: &mut (),
+        _sink: &mut (),
+    ) -> Result<Attempt, Option<Function>> {
+        match pending {
+            Pending::Idling => Ok(load_idling(work)),
+            Pending::EndOfCall(call) => {
+                let call = named(work, call);
+                if needs_device(work, call) {
+                    return Err(call.function);
+                }
+                if asks_host(self.stops, call) {
+                    return Err(call.function);
+                }
+                work.drop_active(1);
+                Ok(perform_alone(work, call, meta))
+            }
+        }
+    }
+}

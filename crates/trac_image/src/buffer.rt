@@ -1,0 +1,12 @@
+//! Buffers of a caller's, filled from the front as far as they reach.
+ghost use Rattle.std.specs.Prelude.{◌≡◌, [], ◌∷◌};
+ghost use Rattle.trac_image.specs.Buffers.{laid_from};
+
+/// Puts an item to a place of a buffer. Behind the end of the buffer nothing is done.
+pub fn put<T: Copy>(item: T, place: usize, room: &mut [T])
+    ensures { room.new ≡ laid_from place (item ∷ []) room.old }
+{
+    if place < room.len() {
+        room[place] = item;
+    }
+}

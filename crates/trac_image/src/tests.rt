@@ -1,0 +1,137 @@
+//! Images that were worked by hand; the sums are those of Python's `zlib.adler32`.
+use crate::checksum::checksum_of;
+use crate::{load, save};
+use std::process::Abort;
+use trac_core::{Cell, Machine, Refused};
+
+/// The form `F` with the body `a`, gap 1, `b` and the pointer 2, and the meta character `;`.
+const WORKED: [u8; 41] = [
+    84, 82, 65, 67, 1, 59, 1, 0, 0, 0, 1, 0, 0, 0, 3, 0, 0, 0, 2, 0, 0, 0, 2, 0, 0, 0, 70, 97, 98,
+    1, 0, 0, 0, 1, 0, 0, 0, 123, 2, 40, 60,
+];
+
+/// No form, and the apostrophe.
+const EMPTY: &[u8] = &[84, 82, 65, 67, 1, 39, 0, 0, 0, 0, 83, 1, 218, 10];
+
+/// Makes the machine whose image was worked, over a new block.
+fn worked<'a>(rt: &impl Abort, block: &'a mut [Cell; 20]) -> Machine<'a> {
+    let mut machine = Machine::over(block, 1000);
+    assert!(rt; machine.define(b"F", &[97, 256, 98], 2).is_ok());
+    machine.set_meta(b';');
+    machine
+}
+
+#[test]
+fn image_of_a_form(rt: HostRuntime) {
+    let mut block = [Cell::Byte(0); 20];
+    let machine = worked(&rt, &mut block);
+    let mut room = [7; 50];
+    assert_eq!(rt; save(&machine, &mut room), 41);
+    assert!(rt; room.starts_with(&WORKED));
+    assert!(rt; room.ends_with(&[7; 9]));
+}
+
+#[test]
+fn image_of_nothing(rt: HostRuntime) {
+    let mut block = [Cell::Byte(0); 0];
+    let machine = Machine::over(&mut block, 1);
+    let mut room = [7; 14];
+    assert_eq!(rt; save(&machine, &mut room), 14);
+    assert!(rt; room.as_slice() == EMPTY);
+}
+
+#[test]
+fn image_that_does_not_fit(rt: HostRuntime) {
+    let mut block = [Cell::Byte(0); 20];
+    let machine = worked(&rt, &mut block);
+    let mut room = [7; 30];
+    assert_eq!(rt; save(&machine, &mut room), 41);
+    assert!(rt; WORKED.starts_with(&room));
+    assert_eq!(rt; save(&machine, &mut []), 41);
+}
+
+/// The worked image with another byte at a place.
+fn altered(place: usize, byte: u8) -> [u8; 41] {
+    let mut image = WORKED;
+    if let Some(at) = image.get_mut(place) {
+        *at = byte;
+    }
+    image
+}
+
+/// The worked image with another byte at a place, and the sums of what it holds then.
+fn changed(place: usize, byte: u8) -> [u8; 41] {
+    let mut image = altered(place, byte);
+    let sums = checksum_of(&image[..37]);
+    image[37] = (sums.low % 256) as u8;
+    image[38] = (sums.low / 256 % 256) as u8;
+    image[39] = (sums.high % 256) as u8;
+    image[40] = (sums.high / 256 % 256) as u8;
+    image
+}
+
+/// Whether a machine with a form of its own refuses bytes, and has that form and nothing else then.
+fn is_refused(image: &[u8]) -> bool {
+    let mut block = [Cell::Byte(0); 20];
+    let mut machine = Machine::over(&mut block, 1000);
+    let defined = machine.define_text(b"own", b"text").is_ok();
+    let mut before = [0; 40];
+    let len = save(&machine, &mut before);
+    let refused = load(&mut machine, image) == Err(Refused);
+    let mut after = [0; 40];
+    defined && refused && save(&machine, &mut after) == len && before == after
+}
+
+#[test]
+fn image_that_is_taken(rt: HostRuntime) {
+    let mut block = [Cell::Byte(0); 7];
+    let mut machine = Machine::over(&mut block, 1000);
+    assert!(rt; machine.define_text(b"G", b"xyz").is_ok());
+    assert_eq!(rt; load(&mut machine, &WORKED), Ok(()));
+    assert_eq!(rt; machine.meta(), b';');
+    assert_eq!(rt; machine.size(), 7);
+    let mut room = [0; 41];
+    assert_eq!(rt; save(&machine, &mut room), 41);
+    assert!(rt; room == WORKED);
+    assert_eq!(rt; load(&mut machine, EMPTY), Ok(()));
+    assert_eq!(rt; machine.size(), 0);
+    assert_eq!(rt; machine.meta(), b'\'');
+}
+
+#[test]
+fn images_that_are_refused(rt: HostRuntime) {
+    // One cell too few, and no bytes.
+    let mut block = [Cell::Byte(0); 6];
+    let mut machine = Machine::over(&mut block, 1000);
+    assert_eq!(rt; load(&mut machine, &WORKED), Err(Refused));
+    assert!(rt; is_refused(&[]));
+    for len in 0..WORKED.len() {
+        assert!(rt; is_refused(&WORKED[..len]));
+    }
+    // The worked image itself is made by no change.
+    assert!(rt; !is_refused(&changed(5, b';')));
+    // Another name, another version, one form fewer, and one more than there are.
+    assert!(rt; is_refused(&changed(0, b't')));
+    assert!(rt; is_refused(&changed(4, 2)));
+    assert!(rt; is_refused(&changed(6, 0)));
+    assert!(rt; is_refused(&changed(6, 2)));
+    assert!(rt; is_refused(&changed(9, 255)));
+    // A name, a body and characters of other lengths, and a pointer past the body.
+    assert!(rt; is_refused(&changed(10, 2)));
+    assert!(rt; is_refused(&changed(14, 4)));
+    assert!(rt; is_refused(&changed(18, 3)));
+    assert!(rt; is_refused(&changed(22, 4)));
+    // A gap behind more characters than there are, and the ordinals 0 and 16,777,217.
+    assert!(rt; is_refused(&changed(29, 3)));
+    assert!(rt; is_refused(&changed(33, 0)));
+    assert!(rt; is_refused(&changed(36, 1)));
+}
+
+#[test]
+fn images_that_are_another(rt: HostRuntime) {
+    // The pointer at the end, a gap at the front, at the end, and with another ordinal.
+    assert!(rt; !is_refused(&changed(22, 3)));
+    assert!(rt; !is_refused(&changed(29, 0)));
+    assert!(rt; !is_refused(&changed(29, 2)));
+    assert!(rt; !is_refused(&changed(33, 2)));
+}

@@ -1,0 +1,102 @@
+//! Compares the numbers at the ends of two texts, however long they are.
+ghost use Rattle.std.specs.Prelude.{◌≡◌, ◌↔◌, ◌+◌, ◌*◌, ◌<◌, ◌≤◌, ◌^◌, false, ℤ, IsTrue, length};
+ghost use Rattle.std.specs.Prelude.{◌<ℤ◌, Some};
+ghost use Rattle.std.specs.Ordering.{nat_cmp};
+ghost use Rattle.trac_language.specs.Number.{digits, ends_with};
+ghost use Rattle.trac_space.specs.Texts.{text_of_cells};
+ghost use Rattle.trac_values.specs.Digits.{IsDecimal, decimal_value, value_upto};
+ghost use Rattle.trac_values.specs.Cells.{IsText, number_in};
+
+use crate::digits::split_digits;
+use crate::number::{DIGITS_THAT_ADD, may_be_long, short_tail, tail_of_few};
+use crate::text::ends_with;
+use std::cmp::Ordering;
+use trac_space::{Cell, character_of};
+
+/// The digit at a place of a number that is filled with zeros at the left up to `long` digits.
+fn digit_at(digits: &[Cell], long: usize, place: usize) -> u8
+    requires digits { IsDecimal digits.now }
+    requires long { (length digits.now ≤ long) × (long < 2 ^ 62) }
+    requires place { place < long }
+    ensures below { result < 10 }
+    ensures value { let text = text_of_cells digits.now in
+        value_upto text long (place + 1) ≡ value_upto text long place * 10 + result }
+{
+    if place + digits.len() < long {
+        0
+    } else {
+        character_of(&digits[place + digits.len() - long]) - b'0'
+    }
+}
+
+/// Compares the numbers of digits, however many they are.
+fn compare_digits(a: &[Cell], b: &[Cell]) -> Ordering
+    requires left { IsDecimal a.now }
+    requires right { IsDecimal b.now }
+    requires short { (length a.now ≤ 16777216) × (length b.now ≤ 16777216) }
+    ensures { result ≡ nat_cmp (decimal_value a.now) (decimal_value b.now) }
+{
+    let long = a.len().max(b.len());
+    let mut order = Ordering::Equal;
+    for place in 0..long {
+        order = order.then(digit_at(a, long, place).cmp(&digit_at(b, long, place)));
+    }
+    order
+}
+
+/// Whether the number at the end of text `a` is greater than the one at the end of text `b`: the test of
+/// `gr` (Mooers 1966). That the numbers may have any length is this processor's own choice.
+#[inline(always)]
+pub fn greater(a: &[Cell], b: &[Cell]) -> bool
+    requires left { IsText a.now }
+    requires right { IsText b.now }
+    ensures { IsTrue result ↔ (number_in b.now <ℤ number_in a.now) }
+{
+    if a.len() > DIGITS_THAT_ADD || b.len() > DIGITS_THAT_ADD {
+        return longer_greater(a, b);
+    }
+    tail_of_few(a).1 > tail_of_few(b).1
+}
+
+/// Whether the number at the end of text `a` is greater than the one at the end of text `b`. Takes less
+/// for numbers of at most 19 digits.
+#[cold]
+#[inline(never)]
+fn longer_greater(a: &[Cell], b: &[Cell]) -> bool
+    requires left { IsText a.now }
+    requires right { IsText b.now }
+    ensures { IsTrue result ↔ (number_in b.now <ℤ number_in a.now) }
+{
+    if may_be_long(a) || may_be_long(b) {
+        return long_greater(a, b);
+    }
+    if let Some((_, m)) = short_tail(a) {
+        if let Some((_, n)) = short_tail(b) {
+            return m > n;
+        }
+    }
+    long_greater(a, b)
+}
+
+/// Whether the number at the end of text `a` is greater than the one at the end of text `b`, found by
+/// comparing their digits.
+#[inline(never)]
+fn long_greater(a: &[Cell], b: &[Cell]) -> bool
+    requires left { IsText a.now }
+    requires right { IsText b.now }
+    ensures { IsTrue result ↔ (number_in b.now <ℤ number_in a.now) }
+{
+    let (a_front, a_digits) = split_digits(a);
+    let (b_front, b_digits) = split_digits(b);
+    let a_negative = ends_with(a_front, b'-');
+    let b_negative = ends_with(b_front, b'-');
+    if a_negative && b_negative {
+        compare_digits(a_digits, b_digits).is_lt()
+    } else if a_negative {
+        false
+    } else if b_negative {
+        compare_digits(a_digits, &[]).is_gt() || compare_digits(b_digits, &[]).is_gt()
+    } else {
+        compare_digits(a_digits, b_digits).is_gt()
+    }
+}

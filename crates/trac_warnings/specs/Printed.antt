@@ -1,0 +1,42 @@
+-- Texts that are a call, and line ends.
+use Rattle.std.specs.Prelude.{ℕ, ◌-◌, ◌==◌, ◌&&◌, ◌||◌, Bool, false, List, [], ◌∷◌, length, if◌then◌else◌}
+use Rattle.trac_language.specs.Text.{Text}
+use Rattle.trac_warnings.specs.Origins.{more}
+use Rattle.trac_warnings.specs.Spelling.{names_function}
+
+-- a text without a number sign at its head, if one is there
+abbrev pub behind_sign : Text → Text
+behind_sign [] = []
+behind_sign (c ∷ text) = if c == 35 then text else c ∷ text
+
+-- what stands behind a left parenthesis at the head of a text; null, if none is there
+abbrev pub behind_parenthesis : Text → Text
+behind_parenthesis [] = []
+behind_parenthesis (c ∷ text) = if c == 40 then text else []
+
+-- what stands behind the characters that open a call at the head of a text; null, if they aren't there
+abbrev pub behind_opening : Text → Text
+behind_opening [] = []
+behind_opening (c ∷ text) = if c == 35 then behind_parenthesis (behind_sign text) else []
+
+-- whether the last character of a text closes the outermost of so many open parentheses, and none before it does
+abbrev pub closes_at_end : (opened : ℕ) → Text → Bool
+closes_at_end opened [] = false
+closes_at_end opened (c ∷ text) =
+    if c == 40 then closes_at_end (more opened 1) text
+    else (if c == 41 then (if opened == 1 then length text == 0 else closes_at_end (opened - 1) text)
+    else closes_at_end opened text)
+
+-- whether a text is a call of a function, and nothing else
+abbrev pub is_call : Text → Bool
+is_call text = names_function 41 (behind_opening text) && closes_at_end 1 (behind_opening text)
+
+-- whether a line ends with CR and LF in a text, before which a CR stands or doesn't
+abbrev pub has_two_at_end : (is_behind : Bool) → Text → Bool
+has_two_at_end is_behind [] = false
+has_two_at_end is_behind (c ∷ text) = (is_behind && (c == 10)) || has_two_at_end (c == 13) text
+
+-- whether a text begins with CR or LF
+abbrev pub begins_with_line_end : Text → Bool
+begins_with_line_end [] = false
+begins_with_line_end (c ∷ text) = (c == 13) || (c == 10)

@@ -1,0 +1,175 @@
+//! What is suspicious in the texts that a call computes with or compares.
+ghost use Rattle.std.specs.Prelude.{◌≡◌, OnOk};
+ghost use Rattle.trac_space.specs.Texts.{text_of_cells};
+ghost use Rattle.std.specs.Char.{is_ascii_digit};
+ghost use Rattle.std.specs.List.{list_all};
+ghost use Rattle.trac_warnings.specs.Operands.{operand_among, suspicion_of_number, suspicion_of_operand};
+ghost use Rattle.trac_warnings.specs.Operands.{behind_digit, takes_numbers};
+ghost use Rattle.trac_warnings.specs.Performed.{Warns, compares_texts, differ_by_blanks, has_odd_operand};
+ghost use Rattle.trac_warnings.specs.Performed.{operand_warnings, side_warnings, suspicion_of_sides};
+ghost use Rattle.trac_warnings.specs.Watched.{Kept};
+
+use crate::blanks::trimmed;
+use crate::letters::differ_by_letters;
+use crate::performed::{Ending, warn};
+use crate::warning::{Suspicion, Warning};
+use std::alloc::{AllocError, Allocator};
+use trac_core::Machine;
+use trac_events::{argument, find_form, is_same};
+use trac_language::Function;
+use trac_space::{Cell, character_of};
+
+/// Looks at the first argument in which something is suspicious, if a call of this function takes its
+/// arguments for numbers. An error means that memory ran out.
+#[tactic(auto, using(crate::proofs::Keeping::keeping))]
+pub(crate) fn look_at_operands<A: Allocator + Copy>(
+    warnings: &mut Vec<Warning<A>, A>,
+    alloc: A,
+    machine: &Machine,
+    function: Function,
+    ending: &Ending,
+) -> Result<(), AllocError>
+    ensures kept { Kept warnings.old.items warnings.new.items }
+    ensures said { OnOk result (Warns warnings.old.items warnings.new.items
+        (operand_warnings function machine.now.memory.forms ending.now)) }
+{
+    if !takes_numbers(function) {
+        return Ok(());
+    }
+    let first = argument(ending.arguments, 1);
+    if let Some(suspicion) = operand_among(machine, first) {
+        return warn(warnings, alloc, suspicion, ending.begin, first);
+    }
+    let second = argument(ending.arguments, 2);
+    match operand_among(machine, second) {
+        Some(suspicion) => warn(warnings, alloc, suspicion, ending.begin, second),
+        None => Ok(()),
+    }
+}
+
+/// Whether something is suspicious in one of the first two arguments, which are taken for numbers.
+pub(crate) fn has_odd_operand(arguments: &[Cell]) -> bool
+    ensures { result ≡ has_odd_operand arguments.now }
+{
+    suspicion_of_operand(argument(arguments, 1)).is_some()
+        || suspicion_of_operand(argument(arguments, 2)).is_some()
+}
+
+// Whether a function takes its first two arguments for numbers.
+fn takes_numbers(function: Function) -> bool
+    ensures { result ≡ takes_numbers function }
+{
+    matches!(function, Function::Greater | Function::Arithmetic(_))
+}
+
+// What is suspicious in an argument that is taken for a number; if it has no digits and is the name of a form,
+// the warning says so.
+fn operand_among(machine: &Machine, cells: &[Cell]) -> Option<Suspicion>
+    ensures { result ≡ operand_among machine.now.memory.forms cells.now }
+{
+    let suspicion = suspicion_of_operand(cells)?;
+    if suspicion != Suspicion::NoDigits {
+        return Some(suspicion);
+    }
+    match find_form(machine, cells) {
+        Some(_) => Some(Suspicion::FormAsNumber),
+        None => Some(suspicion),
+    }
+}
+
+// What is suspicious in an argument that is taken for a number. None if it is null.
+fn suspicion_of_operand(cells: &[Cell]) -> Option<Suspicion>
+    ensures { result ≡ suspicion_of_operand cells.now }
+{
+    if cells.is_empty() {
+        return None;
+    }
+    suspicion_of_number(cells)
+}
+
+// What is suspicious in a text that is taken for a number: another character behind its first digit, or no digit
+// at all.
+fn suspicion_of_number(text: &[Cell]) -> Option<Suspicion>
+    ensures { result ≡ suspicion_of_number (text_of_cells text.now) }
+{
+    for (i, cell) in text.iter().enumerate() {
+        if character_of(cell).is_ascii_digit() {
+            return suspicion_behind_digit(&text[i + 1..]);
+        }
+    }
+    Some(Suspicion::NoDigits)
+}
+
+// What is suspicious in what stands behind the first digit of a number.
+fn suspicion_behind_digit(rest: &[Cell]) -> Option<Suspicion>
+    ensures { result ≡ behind_digit (text_of_cells rest.now) }
+{
+    if are_digits(rest) {
+        None
+    } else {
+        Some(Suspicion::DigitsInside)
+    }
+}
+
+// Whether all cells are digits.
+fn are_digits(cells: &[Cell]) -> bool
+    ensures { result ≡ list_all is_ascii_digit (text_of_cells cells.now) }
+{
+    for cell in cells {
+        if !character_of(cell).is_ascii_digit() {
+            return false;
+        }
+    }
+    true
+}
+
+/// Looks at the two texts that a call compares. An error means that memory ran out.
+#[tactic(auto, using(crate::proofs::Keeping::keeping))]
+pub(crate) fn look_at_sides<A: Allocator + Copy>(
+    warnings: &mut Vec<Warning<A>, A>,
+    alloc: A,
+    function: Function,
+    ending: &Ending,
+) -> Result<(), AllocError>
+    ensures kept { Kept warnings.old.items warnings.new.items }
+    ensures said { OnOk result (Warns warnings.old.items warnings.new.items
+        (side_warnings function ending.now)) }
+{
+    if !compares_texts(function) {
+        return Ok(());
+    }
+    let one = argument(ending.arguments, 1);
+    match suspicion_of_sides(one, argument(ending.arguments, 2)) {
+        Some(suspicion) => warn(warnings, alloc, suspicion, ending.begin, one),
+        None => Ok(()),
+    }
+}
+
+// What is suspicious in two texts that are compared: that they differ only by blanks and layout around them, or only
+// in capitals and small letters.
+fn suspicion_of_sides(one: &[Cell], other: &[Cell]) -> Option<Suspicion>
+    ensures { result ≡ suspicion_of_sides one.now other.now }
+{
+    if differ_by_blanks(one, other) {
+        Some(Suspicion::BlankInSide)
+    } else if differ_by_letters(one, other) {
+        Some(Suspicion::LetterInSide)
+    } else {
+        None
+    }
+}
+
+// Whether a function compares two texts.
+fn compares_texts(function: Function) -> bool
+    ensures { result ≡ compares_texts function }
+{
+    matches!(function, Function::Equal)
+}
+
+// Whether two texts differ, and are the same without the blanks and the layout around them, which isn't null.
+fn differ_by_blanks(one: &[Cell], other: &[Cell]) -> bool
+    ensures { result ≡ differ_by_blanks one.now other.now }
+{
+    let inner = trimmed(one);
+    !is_same(one, other) && !inner.is_empty() && is_same(inner, trimmed(other))
+}

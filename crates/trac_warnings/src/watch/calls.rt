@@ -1,0 +1,313 @@
+//! The calls of a run that is watched: where they and their arguments were written, and what is suspicious at
+//! their ends.
+ghost use Rattle.std.specs.Prelude.{◌≡◌, ◌<◌, ◌&&◌, [], OnOk, true, drop, false, length, min, not};
+ghost use Rattle.std.specs.Prelude.{reverse};
+ghost use Rattle.trac_language.specs.Function.{function_named};
+ghost use Rattle.trac_space.specs.Texts.{text_of_cells};
+ghost use Rattle.trac_warnings.specs.Looked.{Looks, LooksAtEnd, LooksAtMark, around_of, begin_of};
+ghost use Rattle.trac_warnings.specs.Looked.{is_inside, is_stray, place_of, places_of};
+ghost use Rattle.trac_warnings.specs.Looked.{stray_warnings};
+ghost use Rattle.trac_warnings.specs.Performed.{Warns, function_of, has_odd_operand};
+ghost use Rattle.trac_warnings.specs.Told.{drop_warnings, is_arithmetic, is_null, lowered};
+ghost use Rattle.trac_warnings.specs.Told.{open_warnings, result_warnings, without_last};
+ghost use Rattle.trac_warnings.specs.Watched.{Kept, KeepsPlaces, KeepsRun, said};
+
+use super::{OpenString, Watch};
+use crate::operands::has_odd_operand;
+use crate::origin::Origin;
+use crate::performed::{Ending, commas_in, look_at_call, warn};
+use crate::warning::{Suspicion, Warning};
+use std::alloc::{AllocError, Allocator};
+use trac_core::{CallMark, Machine};
+use trac_events::{Before, argument, arguments_of};
+use trac_functions::function::function_named;
+use trac_language::Function;
+use trac_space::{Cell, character_of};
+
+#[tactic(auto, using(crate::proofs::Keeping::keeping))]
+impl<A: Allocator + Copy> Watch<A> {
+    // Looks at the call that ends, and at the right parenthesis that ends it.
+    pub(super) fn look_at_end_of_call(
+        &mut self,
+        before: &Before,
+        machine: &Machine,
+        input: &[u8],
+    ) -> Result<(), AllocError>
+        requires { before.now.active ≡ length machine.now.memory.active }
+        ensures kept { Kept self.old.warnings.items self.new.warnings.items }
+        ensures looks { OnOk result (LooksAtEnd self.old machine.now input.now
+            self.old.warnings.items self.new.warnings.items) }
+        ensures stays { KeepsPlaces self.old self.new }
+    {
+        self.tell_stray(before.active)?;
+        match machine.call_mark(0) {
+            None => Ok(()),
+            Some(mark) => self.look_at_call(machine, mark.place, input),
+        }
+    }
+
+    // Warns of a right parenthesis that ends no call of its string.
+    fn tell_stray(&mut self, active: usize) -> Result<(), AllocError>
+        ensures kept { Kept self.old.warnings.items self.new.warnings.items }
+        ensures said { OnOk result (Warns self.old.warnings.items self.new.warnings.items
+            (stray_warnings self.old active)) }
+        ensures stays { KeepsRun self.old self.new }
+    {
+        if !self.is_stray(active) {
+            return Ok(());
+        }
+        let here = self.origin();
+        warn(&mut self.warnings, self.alloc, Suspicion::NoCall, here, &[])
+    }
+
+    // Looks at the innermost call, whose mark stands at this place of the neutral string.
+    fn look_at_call(
+        &mut self,
+        machine: &Machine,
+        mark: usize,
+        input: &[u8],
+    ) -> Result<(), AllocError>
+        ensures kept { Kept self.old.warnings.items self.new.warnings.items }
+        ensures looks { OnOk result (LooksAtMark mark self.old machine.now input.now
+            self.old.warnings.items self.new.warnings.items) }
+        ensures stays { KeepsPlaces self.old self.new }
+    {
+        let neutral = machine.neutral();
+        let arguments = arguments_of(neutral, mark);
+        let begin = self.begin();
+        self.arguments.extend_from_slice(arguments)?;
+        self.value = self.origin_of_form(machine, begin)?;
+        let is_inside = self.is_inside(begin);
+        let ending = Ending {
+            arguments,
+            begin,
+            places: places_of(&self.commas, arguments),
+            around: arguments_around(neutral, machine.call_mark(1), mark),
+            is_inside,
+            input,
+        };
+        look_at_call(&mut self.warnings, self.alloc, machine, &ending)
+    }
+
+    // Where the innermost call was written; if it isn't known, where its right parenthesis was.
+    fn begin(&self) -> Origin
+        ensures { result ≡ begin_of self.now }
+    {
+        self.calls.last().copied().unwrap_or(self.origin())
+    }
+
+    // Whether a right parenthesis of the string that is scanned ends no call of it.
+    fn is_stray(&self, active: usize) -> bool
+        ensures { result ≡ is_stray self.now active }
+    {
+        match self.strings.last() {
+            Some(string) => active > string.rest && self.calls.len() <= string.depth,
+            None => false,
+        }
+    }
+
+    // Whether the innermost call, which was written here, stands in another call of the same text.
+    fn is_inside(&self, begin: Origin) -> bool
+        ensures { result ≡ is_inside self.now begin }
+    {
+        let depth = match self.strings.last() {
+            Some(string) => string.depth,
+            None => 0,
+        };
+        match self.calls.get(self.calls.len().saturating_sub(2)) {
+            Some(outer) => self.calls.len() > depth.saturating_add(1) && outer.form == begin.form,
+            None => false,
+        }
+    }
+
+    // Warns of a left parenthesis that has no match, with the characters of its string that are dropped.
+    pub(super) fn tell_protection(
+        &mut self,
+        before: &Before,
+        origin: Origin,
+    ) -> Result<(), AllocError>
+        requires { origin ≡ place_of self.old }
+        ensures kept { Kept self.old.warnings.items self.new.warnings.items }
+        ensures said { OnOk result (Warns self.old.warnings.items self.new.warnings.items
+            (drop_warnings self.old before.now)) }
+        ensures stays { KeepsRun self.old self.new }
+    {
+        if before.drops == 0 {
+            return Ok(());
+        }
+        let rest = match self.strings.last() {
+            Some(string) => string.rest,
+            None => 0,
+        };
+        self.warnings.push(Warning {
+            origin,
+            suspicion: Suspicion::Dropped,
+            count: before.active.saturating_sub(rest),
+            text: Vec::new(self.alloc),
+        })?;
+        Ok(())
+    }
+
+    // Looks at a call that was performed. Afterwards the strings have `active` and `neutral` cells.
+    pub(super) fn tell_call(
+        &mut self,
+        before: &Before,
+        active: usize,
+        neutral: usize,
+    ) -> Result<(), AllocError>
+        ensures kept { Kept self.old.warnings.items self.new.warnings.items }
+        ensures said { OnOk result (Warns self.old.warnings.items self.new.warnings.items
+            (result_warnings self.old before.now active neutral)) }
+        ensures calls { OnOk result (self.new.calls.items ≡ without_last self.old.calls.items) }
+        ensures strings { OnOk result (reverse self.new.strings.items ≡
+            lowered (length (without_last self.old.calls.items)) (reverse self.old.strings.items)) }
+        ensures runs { self.new.runs.items ≡ self.old.runs.items }
+        ensures read { self.new.read ≡ self.old.read }
+    {
+        self.tell_result(before, active, neutral)?;
+        self.keep_form()?;
+        self.close_call()
+    }
+
+    // Warns of a call of arithmetic that has no result, unless something is suspicious in what it computes
+    // with.
+    fn tell_result(
+        &mut self,
+        before: &Before,
+        active: usize,
+        neutral: usize,
+    ) -> Result<(), AllocError>
+        ensures kept { Kept self.old.warnings.items self.new.warnings.items }
+        ensures said { OnOk result (Warns self.old.warnings.items self.new.warnings.items
+            (result_warnings self.old before.now active neutral)) }
+        ensures stays { KeepsRun self.old self.new }
+    {
+        if !self.has_no_result(before, active, neutral) {
+            return Ok(());
+        }
+        let begin = self.calls.last().copied().unwrap_or(self.value);
+        let name = argument(&self.arguments, 0);
+        warn(
+            &mut self.warnings,
+            self.alloc,
+            Suspicion::NoResult,
+            begin,
+            name,
+        )
+    }
+
+    // Whether a call of arithmetic with two numbers has no result: it gives no default value, and its value is
+    // null.
+    fn has_no_result(&self, before: &Before, active: usize, neutral: usize) -> bool
+        ensures { result ≡ (is_arithmetic (function_of self.now.arguments.items)
+            && (is_null self.now before.now active neutral
+            && not (has_odd_operand self.now.arguments.items))) }
+    {
+        is_arithmetic(argument(&self.arguments, 0))
+            && self.is_null(before, active, neutral)
+            && !has_odd_operand(&self.arguments)
+    }
+
+    // Forgets the innermost call. A string that was read in it then belongs to the call around it.
+    fn close_call(&mut self) -> Result<(), AllocError>
+        ensures calls { OnOk result (self.new.calls.items ≡ without_last self.old.calls.items) }
+        ensures strings { OnOk result (reverse self.new.strings.items ≡
+            lowered (length (without_last self.old.calls.items)) (reverse self.old.strings.items)) }
+        ensures warnings { self.new.warnings.items ≡ self.old.warnings.items }
+        ensures runs { self.new.runs.items ≡ self.old.runs.items }
+        ensures read { self.new.read ≡ self.old.read }
+    {
+        let left = self
+            .commas
+            .len()
+            .saturating_sub(commas_in(&self.arguments) as usize);
+        self.commas.truncate(left);
+        self.calls.truncate(self.calls.len().saturating_sub(1));
+        let depth = self.calls.len();
+        if let Some(string) = self.strings.pop() {
+            self.strings.push(OpenString {
+                depth: string.depth.min(depth),
+                ..string
+            })?;
+        }
+        Ok(())
+    }
+
+    // Whether the call that was performed gives no default value and has a null value; after it the strings
+    // have `active` and `neutral` cells.
+    fn is_null(&self, before: &Before, active: usize, neutral: usize) -> bool
+        ensures { result ≡ is_null self.now before.now active neutral }
+    {
+        let mark = self
+            .neutral
+            .saturating_sub(self.arguments.len())
+            .saturating_sub(1);
+        argument(&self.arguments, 3).is_empty() && active < before.active && neutral <= mark
+    }
+}
+
+// Warns of calls that are still open.
+#[tactic(auto, using(crate::proofs::Keeping::keeping))]
+pub(super) fn tell_open_calls<A: Allocator + Copy>(
+    warnings: &mut Vec<Warning<A>, A>,
+    alloc: A,
+    calls: &[Origin],
+) -> Result<(), AllocError>
+    ensures kept { Kept warnings.old.items warnings.new.items }
+    ensures said { OnOk result (Warns warnings.old.items warnings.new.items (open_warnings calls.now)) }
+{
+    for call in calls {
+        warn(warnings, alloc, Suspicion::OpenCall, *call, &[])?;
+    }
+    Ok(())
+}
+
+// The open calls beyond the outermost `depth`.
+pub(super) fn calls_beyond(calls: &[Origin], depth: usize) -> &[Origin]
+    ensures { result.now ≡ drop depth calls.now }
+{
+    if depth < calls.len() {
+        &calls[depth..]
+    } else {
+        &[]
+    }
+}
+
+// Whether a name is that of a function of arithmetic.
+fn is_arithmetic(name: &[Cell]) -> bool
+    ensures { result ≡ is_arithmetic (function_named (text_of_cells name.now)) }
+{
+    match function_named(name) {
+        Some(Function::Arithmetic(_)) => true,
+        _ => false,
+    }
+}
+
+// The arguments so far of the call around the innermost one, by the places of their marks in the neutral
+// string; null if no call is open around it.
+fn arguments_around(neutral: &[Cell], outer: Option<CallMark>, mark: usize) -> &[Cell]
+    ensures { result.now ≡ around_of outer neutral.now mark }
+{
+    match outer {
+        Some(outer) => arguments_of(&neutral[..mark.min(neutral.len())], outer.place),
+        None => &[],
+    }
+}
+
+// Where each argument behind the name of the innermost call was written; `arguments` are the call's cells.
+// `commas` has the places of the arguments of all open calls.
+pub(super) fn places_of<'c>(commas: &'c [Origin], arguments: &[Cell]) -> &'c [Origin]
+    ensures { result.now ≡ places_of commas.now arguments.now }
+{
+    let first = commas.len().saturating_sub(commas_in(arguments) as usize);
+    &commas[first..]
+}
+
+// Where an argument was written, by the comma before it and what stands behind that: what is protected
+// begins behind its parenthesis.
+pub(super) fn argument_origin(comma: Origin, active: &[Cell]) -> Origin {
+    match active {
+        [first, ..] if character_of(first) == b'(' => comma.behind(2),
+        _ => comma.behind(1),
+    }
+}

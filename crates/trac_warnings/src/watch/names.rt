@@ -1,0 +1,127 @@
+//! The names of the forms that a run defined, and where a value was written that comes from a form.
+ghost use Rattle.std.specs.Prelude.{◌≡◌, [], true, MatchOption, false, slice_get};
+ghost use Rattle.trac_language.specs.Function.{function_named};
+ghost use Rattle.trac_events.specs.Calls.{reads};
+ghost use Rattle.trac_warnings.specs.Looked.{places_of};
+ghost use Rattle.trac_warnings.specs.Origins.{in_input};
+ghost use Rattle.trac_warnings.specs.Watched.{KeepsNames};
+
+use super::calls::places_of;
+use super::{Watch, Written};
+use crate::origin::Origin;
+use crate::performed::characters_of;
+use std::alloc::{AllocError, Allocator};
+use trac_core::{Awaits, Machine, ScanningRule};
+use trac_events::{Before, argument, is_same, pointer_of};
+use trac_functions::function::function_named;
+use trac_language::{Function, Given, facts_of};
+use trac_space::Cell;
+
+#[tactic(auto, using(crate::proofs::Keeping::keeping))]
+impl<A: Allocator + Copy> Watch<A> {
+    /// The name of a form by its number in an origin. It is null if no name has the number.
+    pub fn name(&self, number: usize) -> &[u8]
+        ensures { MatchOption (slice_get self.now.names.items number)
+            (result.now ≡ []) (λ name. result.now ≡ name.items) }
+    {
+        match self.names.get(number) {
+            Some(name) => name.as_slice(),
+            None => &[],
+        }
+    }
+
+    // Where the value of the call that the step performs was written, if it comes from a form; else
+    // where the call was written.
+    pub(super) fn origin_of_form(
+        &self,
+        machine: &Machine,
+        begin: Origin,
+    ) -> Result<Origin, AllocError> {
+        let arguments = self.arguments.as_slice();
+        if !gives_body(argument(arguments, 0)) {
+            return Ok(begin);
+        }
+        let name = argument(arguments, 1);
+        let text = characters_of(self.alloc, name)?;
+        let Some(written) = self.written.get(&text).copied() else {
+            return Ok(begin);
+        };
+        let pointer = pointer_of(machine, name).unwrap_or(0);
+        Ok(written.body.in_value(written.number, pointer as usize))
+    }
+
+    // Where what the step puts in front of the active string was written.
+    pub(super) fn value_origin(&self, before: &Before, machine: &Machine) -> Origin
+        ensures { reads before.now.awaits ≡ true → result ≡ in_input self.now.read }
+    {
+        if !matches!(before.awaits, Awaits::Nothing)
+            || !matches!(before.rule, ScanningRule::EndOfCall)
+        {
+            return Origin::in_input(self.read);
+        }
+        let active = machine.active();
+        let added = active.len().saturating_add(1).saturating_sub(before.active);
+        let value = active.get(..added).unwrap_or(&[]);
+        self.origin_of_argument(value).unwrap_or(self.value)
+    }
+
+    // Where the value of the call that the step performs was written, if it is an argument of the call. None
+    // if it is none.
+    fn origin_of_argument(&self, value: &[Cell]) -> Option<Origin> {
+        let arguments = self.arguments.as_slice();
+        let function = function_named(argument(arguments, 0))?;
+        let traits = facts_of(function).traits;
+        let (first, second) = if traits.chooses {
+            (3, 4)
+        } else {
+            let place = traits.default?;
+            (place, place)
+        };
+        let places = places_of(&self.commas, arguments);
+        if is_same(value, argument(arguments, first)) {
+            places.get((first - 1) as usize).copied()
+        } else if is_same(value, argument(arguments, second)) {
+            places.get((second - 1) as usize).copied()
+        } else {
+            None
+        }
+    }
+
+    // Keeps which form a call defined, if it defined one.
+    pub(super) fn keep_form(&mut self) -> Result<(), AllocError>
+        ensures stays { KeepsNames self.old self.new }
+    {
+        match function_named(argument(&self.arguments, 0)) {
+            Some(Function::DefineString) => self.define(),
+            _ => Ok(()),
+        }
+    }
+
+    // Keeps where the body of the form was written that was defined.
+    fn define(&mut self) -> Result<(), AllocError>
+        ensures { KeepsNames self.old self.new }
+    {
+        let name = characters_of(self.alloc, argument(&self.arguments, 1))?;
+        let body = places_of(&self.commas, &self.arguments)
+            .get(1)
+            .copied()
+            .unwrap_or(self.value);
+        let number = match self.written.get(&name) {
+            Some(written) => written.number,
+            None => {
+                self.names.push(name.clone()?)?;
+                self.names.len().saturating_sub(1)
+            }
+        };
+        self.written.insert(name, Written { number, body })?;
+        Ok(())
+    }
+}
+
+// Whether the value of a function of this name is the body of a form, or a part of it.
+fn gives_body(name: &[Cell]) -> bool {
+    match function_named(name) {
+        Some(function) => !matches!(facts_of(function).traits.gives, Given::Nothing),
+        None => false,
+    }
+}

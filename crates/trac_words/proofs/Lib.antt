@@ -1,2 +1,0 @@
-pub mod PlaceReads
-pub mod Commands

@@ -1,0 +1,77 @@
+// Generated from crates/trac_core/src/performer.rt by hosts/rust/generate, and never edited.
+//! What performs the calls that the scanner comes to: all of them, with a source and a sink, or those
+//! that need neither.
+
+use crate::trac_core::attempt::Attempt;
+use crate::trac_core::call::{asks_host, named, needs_device, perform_alone, perform_pending};
+use crate::trac_core::idling::load_idling;
+use crate::trac_core::scan::Pending;
+use crate::trac_devices::{Sink, Source};
+use crate::trac_forms::Work;
+use crate::trac_language::Function;
+
+/// Makes the steps that perform a call or load the idling procedure. It may decline one.
+pub(crate) trait Performer<I, O>: Copy {
+    /// Makes the step that the beginning of the active string asks for. An error is the function of the
+    /// call that is declined, if it names one: then nothing is done.
+    fn perform(
+        self,
+        work: &mut Work,
+        pending: Pending,
+        meta: &mut u8,
+        source: &mut I,
+        sink: &mut O,
+    ) -> Result<Attempt, Option<Function>>;
+}
+
+/// Performs each call. Those that read or print use the source and the sink.
+#[derive(Clone, Copy, Debug)]
+pub(crate) struct WithDevices;
+
+impl<I: Source, O: Sink> Performer<I, O> for WithDevices {
+    #[inline(always)]
+    fn perform(
+        self,
+        work: &mut Work,
+        pending: Pending,
+        meta: &mut u8,
+        source: &mut I,
+        sink: &mut O,
+    ) -> Result<Attempt, Option<Function>> {
+        Ok(perform_pending(work, pending, meta, source, sink))
+    }
+}
+
+/// Performs the calls that need no device, and declines the others.
+#[derive(Clone, Copy, Debug)]
+pub(crate) struct Alone {
+    /// Whether it declines a call whose name is no function, too.
+    pub(crate) stops: bool,
+}
+
+impl Performer<(), ()> for Alone {
+    #[inline(always)]
+    fn perform(
+        self,
+        work: &mut Work,
+        pending: Pending,
+        meta: &mut u8,
+        _source: &mut (),
+        _sink: &mut (),
+    ) -> Result<Attempt, Option<Function>> {
+        match pending {
+            Pending::Idling => Ok(load_idling(work)),
+            Pending::EndOfCall(call) => {
+                let call = named(work, call);
+                if needs_device(work, call) {
+                    return Err(call.function);
+                }
+                if asks_host(self.stops, call) {
+                    return Err(call.function);
+                }
+                work.drop_active(1);
+                Ok(perform_alone(work, call, meta))
+            }
+        }
+    }
+}

@@ -1,0 +1,103 @@
+// Generated from crates/trac_space/src/character_runs.rt by hosts/rust/generate, and never edited.
+//! Runs of characters in the block: how long they are, and copies of them with commas marked.
+
+use crate::trac_space::cell::{Cell, are_characters, are_four, are_two, byte_in, is_character};
+use crate::trac_space::copies::BLOCK;
+
+// Copies characters to a lower place, at most `most`. `table` has a number for each byte: 0 keeps the
+// character, 1 makes it a comma mark, a higher number ends the run before it. Gives the length of the
+// run, and the place in it behind its last comma mark.
+#[inline]
+pub(crate) fn copy_turned(
+    cells: &mut [Cell],
+    start: usize,
+    to: usize,
+    most: usize,
+    table: &[u8],
+) -> (usize, usize)
+{
+    let mut count = 0;
+    let mut last = 0;
+    while count < most {
+        let byte = byte_in(&cells[start + count]);
+        let number = table[usize::from(byte)];
+        if number == 0 {
+            cells[to + count] = Cell::Byte(byte);
+        } else if number == 1 {
+            cells[to + count] = Cell::Comma;
+            last = count + 1;
+        } else {
+            return (count, last);
+        }
+        count += 1;
+    }
+    (count, last)
+}
+
+// Whether the `n` cells from place `at` on are all characters. Tests eight cells at a time; the last
+// group may overlap the one before it.
+#[inline(always)]
+pub(crate) fn are_all_characters(cells: &[Cell], at: usize, n: usize) -> bool
+{
+    if n < BLOCK {
+        return are_few_characters(cells, at, n);
+    }
+    let mut done = 0;
+    while n - done > BLOCK {
+        if !are_characters(cells, at + done) {
+            return false;
+        }
+        done += BLOCK;
+    }
+    are_characters(cells, at + (n - BLOCK))
+}
+
+// Whether the `n` cells from place `at` on, at most eight, are all characters.
+#[inline(always)]
+fn are_few_characters(cells: &[Cell], at: usize, n: usize) -> bool
+{
+    if n >= 4 {
+        are_four(cells, at) && are_four(cells, at + (n - 4))
+    } else if n >= 2 {
+        are_two(cells, at) && are_two(cells, at + (n - 2))
+    } else {
+        n == 0 || is_character(&cells[at])
+    }
+}
+
+// How many characters stand in a row from place `start` on; counts up to `most`.
+#[inline(always)]
+pub(crate) fn characters_from(cells: &[Cell], start: usize, most: usize) -> usize
+{
+    let mut count = 0;
+    while most - count >= BLOCK {
+        let more = characters_each(cells, start + count, BLOCK);
+        count += more;
+        if more < BLOCK {
+            return count;
+        }
+    }
+    count + characters_each(cells, start + count, most - count)
+}
+
+// How many characters stand in a row from place `start` on; counts up to `most`, cell by cell.
+#[inline(always)]
+fn characters_each(cells: &[Cell], start: usize, most: usize) -> usize
+{
+    let mut count = 0;
+    while count < most && is_character(&cells[start + count]) {
+        count += 1;
+    }
+    count
+}
+
+// How many characters stand in a row right before place `at`; counts up to eight.
+#[inline]
+pub(crate) fn characters_before(cells: &[Cell], at: usize) -> usize
+{
+    let mut count = 0;
+    while count < BLOCK && is_character(&cells[at - count - 1]) {
+        count += 1;
+    }
+    count
+}

@@ -1,0 +1,67 @@
+// Generated from crates/trac_space/src/space/moves.rt by hosts/rust/generate, and never edited.
+//! Moves of cells from one list to another, which need no free cell.
+
+use super::Space;
+use crate::trac_space::cell::Cell;
+use crate::trac_space::character_runs::copy_turned;
+use crate::trac_space::copies::{copy_cells, copy_mostly_apart};
+
+impl<'a> Space<'a> {
+    /// Moves the cells of neutral from place `from` on to the front of active, in order.
+    pub fn neutral_to_active(&mut self, from: u32)
+    {
+        let count = self.neutral - from;
+        let start = (self.store + from) as usize;
+        let end = (self.store + self.neutral) as usize;
+        let to = (self.end - (self.active + count)) as usize;
+        copy_mostly_apart(self.cells, start, end, to);
+        self.neutral = from;
+        self.active += count;
+    }
+
+    /// Moves the first `n` cells of active to the end of neutral.
+    #[inline]
+    pub fn active_to_neutral(&mut self, n: u32)
+    {
+        let rest = self.active - n;
+        let start = (self.end - self.active) as usize;
+        let end = (self.end - rest) as usize;
+        let to = (self.store + self.neutral) as usize;
+        copy_cells(self.cells, start, end, to);
+        self.neutral += n;
+        self.active = rest;
+    }
+
+    /// Moves characters from the front of active to the end of neutral, at most `most`. `table` has a
+    /// number for each byte: 0 keeps the character, 1 makes it a comma mark, a higher number ends the run
+    /// before it. Gives the length of the run, and the place in it behind its last comma mark.
+    #[inline]
+    pub fn run_to_neutral(&mut self, most: u32, table: &[u8]) -> (u32, u32)
+    {
+        let start = (self.end - self.active) as usize;
+        let to = (self.store + self.neutral) as usize;
+        let (count, last) = copy_turned(self.cells, start, to, most as usize, table);
+        self.neutral += count as u32;
+        self.active -= count as u32;
+        (count as u32, last as u32)
+    }
+
+    /// Removes the first `n` cells of active, one or more, and appends `cell` to neutral for them. Needs
+    /// no free cell.
+    #[inline]
+    pub fn active_to_cell(&mut self, n: u32, cell: Cell)
+    {
+        self.drop_active(n);
+        self.put_neutral(cell);
+    }
+
+    /// Moves the cells of neutral from place `from` on to the end of the store, in order.
+    pub fn neutral_to_store(&mut self, from: u32)
+    {
+        let start = self.store as usize;
+        let end = (self.store + self.neutral) as usize;
+        self.cells[start..end].rotate_left(from as usize);
+        self.store += self.neutral - from;
+        self.neutral = from;
+    }
+}
