@@ -8,15 +8,13 @@ import { Session } from '../js/trac.mjs';
 import { ACTIVE_CALL, FRONT_OF_LINE, callAhead } from './codes.js';
 import { changesForms, learnFunctions } from './functions.js';
 import {
-    Kept, Pace, SLICE, STEPS_OF_READING, Walker, pause,
+    Kept, Near, Pace, SLICE, STEPS_OF_READING, Walker, pause,
 } from './machines.js';
 import { Origins } from './origins.js';
 
 /** Of how many steps at most the calls are listed. Later ones are looked for when they are wanted. */
 export const MOST_LISTED = 5000000;
 
-const MOST_NEAR = 8;
-const NEAR_BYTES = 2 ** 23;
 const NEAREST = 256;
 const MOST_PEEKED = 2 ** 20;
 const GIVES_VALUES = new Set(['going', 'steps']);
@@ -203,8 +201,7 @@ export class History {
         this.kept = new Kept(shown.save(), limits.cells);
         /** After how many steps a run is stopped that nobody asked for. */
         this.most = Infinity;
-        /** @type {ReturnType<Walker['save']>[]} */
-        this.near = [];
+        this.near = new Near();
         /** @type {Uint8Array[]} */
         this.output = [];
         /** @type {import('./machines.js').Progress} */
@@ -306,7 +303,7 @@ export class History {
             if (stop === goal) this.noteNext();
             this.pace.advance(this.shown, stop, until);
             if (this.step < stop) return false;
-            if (stop < goal - 1) this.keepNear();
+            if (stop < goal - 1 && this.limits.cells <= MOST_PEEKED) this.near.keep(this.shown.save());
         }
         return true;
     }
@@ -331,10 +328,7 @@ export class History {
      * @param {number} step
      */
     nearest(step) {
-        return this.near.reduce(
-            (best, saved) => (saved.state.step <= step && saved.state.step > best.state.step
-                ? saved : best),
-            this.kept.before(step));
+        return this.near.before(step, this.kept.before(step));
     }
 
     /**
@@ -348,15 +342,6 @@ export class History {
         let distance = NEAREST;
         while (distance * 4 < left) distance *= 4;
         return goal - distance;
-    }
-
-    /** Keeps the machine on the way to a step, so that those in front of it are near too. */
-    keepNear() {
-        if (this.limits.cells > MOST_PEEKED) return;
-        const saved = this.shown.save();
-        if (saved.bytes > NEAR_BYTES) return;
-        this.near.push(saved);
-        if (this.near.length > MOST_NEAR) this.near.shift();
     }
 
     /**

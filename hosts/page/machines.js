@@ -19,6 +19,8 @@ export function pause() {
 const MOST_KEPT = 128;
 const KEPT_BYTES = 2 ** 27;
 const LEAST_APART = 4096;
+const MOST_NEAR = 8;
+const NEAR_BYTES = 2 ** 23;
 // A step over long texts can take a thousand times as long as the one before.
 const MOST_AT_ONCE = 1024;
 const NOTHING = new Uint8Array(0);
@@ -232,5 +234,33 @@ export class Kept {
             else high = middle;
         }
         return this.all[low];
+    }
+}
+
+/** The machines that were kept last on the way to a step, so that those in front of it are near too. */
+export class Near {
+    constructor() {
+        /** @type {ReturnType<Walker['save']>[]} */
+        this.all = [];
+    }
+
+    /**
+     * Keeps a machine, unless it is large.
+     * @param {ReturnType<Walker['save']>} saved
+     */
+    keep(saved) {
+        if (saved.bytes > NEAR_BYTES) return;
+        this.all.push(saved);
+        if (this.all.length > MOST_NEAR) this.all.shift();
+    }
+
+    /**
+     * The last one that isn't behind a step, or another machine if that is later.
+     * @param {number} step
+     * @param {ReturnType<Walker['save']>} other
+     */
+    before(step, other) {
+        return this.all.reduce(
+            (best, saved) => (saved.state.step <= step && saved.state.step > best.state.step ? saved : best), other);
     }
 }

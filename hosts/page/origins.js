@@ -8,7 +8,7 @@
 import { lineOf, nameKey } from './codes.js';
 import { functionNamed } from './functions.js';
 import {
-    Kept, Pace, SLICE, STEPS_OF_READING,
+    Kept, Near, Pace, SLICE, STEPS_OF_READING,
 } from './machines.js';
 
 /** How many steps of a string are followed at most: what is scanned further on takes too long to be found. */
@@ -16,6 +16,9 @@ const MOST_FOLLOWED = 1000000;
 /** How far apart machines are kept with their places, in steps; in a large block, to keep one takes longer. */
 const STEPS_APART = 128;
 const CELLS_A_STEP = 1024;
+/** How far apart they are in front of the step that is approached, so that a step back follows few steps. */
+const NEAR_APART = 32;
+const NEAR_STEPS = 256;
 const COMMA_MARK = 258;
 
 /** @typedef {import('../js/trac.mjs').StoredForm} StoredForm */
@@ -206,6 +209,8 @@ export class Origins {
          * reached
          */
         this.kept = null;
+        /** The machines of that string in front of the step that was approached, with their places. */
+        this.near = new Near();
         /** @type {Chain} */
         this.active = null;
         /** @type {Chain} which begins with the last span */
@@ -232,9 +237,20 @@ export class Origins {
         while (this.walker.state.step < step) {
             if (performance.now() > until) return false;
             this.follow();
-            if (this.walker.state.step === this.kept.due) this.kept.add(this.save());
+            this.keep(step);
         }
         return true;
+    }
+
+    /**
+     * Keeps the machine with its places, if it is time for it.
+     * @param {number} step the one that is approached
+     */
+    keep(step) {
+        const here = this.walker.state.step;
+        const left = step - here;
+        if (here === this.kept.due) this.kept.add(this.save());
+        else if (left && left <= NEAR_STEPS && left % NEAR_APART === 0) this.near.keep(this.save());
     }
 
     /**
@@ -249,6 +265,7 @@ export class Origins {
         if (this.begin !== begin) {
             this.begin = begin;
             this.kept = null;
+            this.near = new Near();
             walker.restore(history.nearest(begin));
         }
         if (!this.kept) {
@@ -258,7 +275,7 @@ export class Origins {
             this.kept = new Kept(this.save(), history.limits.cells);
             this.kept.apart = Math.max(STEPS_APART, Math.ceil(history.limits.cells / CELLS_A_STEP));
         }
-        const nearest = this.kept.before(step);
+        const nearest = this.near.before(step, this.kept.before(step));
         const here = walker.state.step;
         if (here > step || nearest.state.step > here) this.restore(nearest);
         return true;

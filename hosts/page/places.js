@@ -18,7 +18,7 @@ import { isFault } from './view.js';
 /** @typedef {import('./origins.js').Span} Span */
 
 /** How many milliseconds are spent on it before the step is shown without. */
-const AT_ONCE = 12;
+const AT_ONCE = 6;
 
 /**
  * The part of the texts that bytes of the input are, with the whole characters that they belong to.
