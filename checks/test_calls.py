@@ -10,11 +10,17 @@ SECONDS = 10
 MUTATIONS = int(os.environ.get('MUTATIONS', '5000'))
 
 
-def test_what_a_fuzzer_of_calls_finds():
-    done = subprocess.run([os.path.join(TOP, 'checks', 'fuzz', 'run'), 'calls', str(SECONDS)], capture_output=True,
+def fuzz(seconds):
+    """Fuzzes for some seconds, and gives how many sequences of calls were made."""
+    done = subprocess.run([os.path.join(TOP, 'checks', 'fuzz', 'run'), 'calls', str(seconds)], capture_output=True,
                           text=True, errors='replace', timeout=300, check=False, env={**os.environ, 'SEED': '64'})
     assert done.returncode == 0, done.stderr[-3000:]
-    assert int(re.search(r'number_of_executed_units: (\d+)', done.stderr)[1]) > 2000
+    return int(re.search(r'number_of_executed_units: (\d+)', done.stderr)[1])
+
+
+def test_what_a_fuzzer_of_calls_finds():
+    # a machine that does much else at that time gets more seconds
+    assert fuzz(SECONDS) > 2000 or fuzz(10 * SECONDS) > 2000
 
 
 def test_mutated_images():

@@ -34,8 +34,13 @@ class TwoEngines:
                 runs = sum(int(re.search(r'^(\d+) runs, 0 differ$', text, re.MULTILINE)[1]) for text in said)
                 self.assertGreater(runs, 10 ** length)
 
-    def test_what_a_fuzzer_finds(self):
-        done = subprocess.run([os.path.join(CHECKS, 'fuzz', 'run'), 'engines', str(SECONDS)], capture_output=True,
+    def fuzz(self, seconds):
+        """Fuzzes for some seconds, and gives how many scripts were run."""
+        done = subprocess.run([os.path.join(CHECKS, 'fuzz', 'run'), 'engines', str(seconds)], capture_output=True,
                               text=True, errors='replace', timeout=300, env={**os.environ, **self.fuzzed})
         self.assertEqual(done.returncode, 0, done.stderr[-3000:])
-        self.assertGreater(int(re.search(r'number_of_executed_units: (\d+)', done.stderr)[1]), 1000)
+        return int(re.search(r'number_of_executed_units: (\d+)', done.stderr)[1])
+
+    def test_what_a_fuzzer_finds(self):
+        # a machine that does much else at that time gets more seconds
+        self.assertTrue(self.fuzz(SECONDS) > 1000 or self.fuzz(10 * SECONDS) > 1000)
