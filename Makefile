@@ -136,6 +136,10 @@ generate: format
 rust:
 	hosts/rust/generate
 
+## make rows       the tests' scripts that were worked by hand, rows.rt, anew from checks/rows.txt (Python; a second)
+rows:
+	$(PYTHON) checks/worked_rows.py
+
 ## make editors    the functions' names in editors/ and for the fuzzers, by the engine's table (a C compiler; 5 seconds)
 editors: $(SHARED)
 	$(PYTHON) checks/function_names.py $(SHARED)
@@ -256,4 +260,4 @@ check-tools:
 	@checks/tools
 
 .PHONY: all help prove programs check check-machines test proofs check-proved check-timed edits new-function format \
-    generate rust editors types dist libraries page npm install uninstall needs-prefix package clean check-tools
+    generate rust rows editors types dist libraries page npm install uninstall needs-prefix package clean check-tools

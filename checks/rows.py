@@ -2,33 +2,19 @@
 import functools
 import glob
 import os
-import re
 
 from trac import TOP, report
 from test_manual import PAIR, read as manual
-from test_rooms import SCRIPTS
+from worked_rows import tables, text
 
-STRING = r'"((?:[^"\\]|\\.)*)"'
-FIRST = re.compile(rf'\(\s*(?:{STRING}|([A-Z]+)),', re.DOTALL)
-NAMED = re.compile(rf'const ([A-Z]+): &str = {STRING};')
-ESCAPES = {'n': '\n', 't': '\t', 'r': '\r', '0': '\0', '\\': '\\', '"': '"', "'": "'"}
-
-
-def unescaped(text):
-    return re.sub(r'\\(.)', lambda found: ESCAPES[found[1]], text)
+# Unlike the other rows: calls of four functions in one string, a pointer before a gap, and bytes that are no text.
+MORE = [b"#(ad,Apples5,Oranges7)#(bu,12,4)#(br,7,42)##(dv,1,0,(#(ps,Z!)))x'", b"#(ds,F,xay)#(ss,F,a)#(cc,F)#(pf,F)'",
+        b"\xff\x00'"]
 
 
 def worked():
     """The scripts whose results were worked out by hand."""
-    def source(name):
-        with open(os.path.join(TOP, 'crates/trac_tests/src', name), encoding='utf-8') as file:
-            return file.read()
-
-    text = source('machine/rows.rt')
-    named = dict(NAMED.findall(source('machine.rt')))
-    scripts = [unescaped(named[name] if name else script) for script, name in FIRST.findall(text)]
-    assert len(scripts) == sum(int(n) for n in re.findall(r'; (\d+)\] = ', text)), len(scripts)
-    return scripts
+    return [text(row['input']) for rows in tables().values() for row in rows]
 
 
 def examples():
@@ -41,9 +27,7 @@ def examples():
 def rows():
     """Scripts, and the options for each: the examples, the scripts of the manual, and the worked scripts, in ample
     room, with one cell too few, and with one step too few."""
-    scripts = [script.encode() for script in worked()]
-    scripts += [script[:-1].encode() for script, _ in PAIR.findall(manual())]
-    scripts += [script.encode() for script in SCRIPTS] + list(examples()) + [b"\xff\x00'"]
+    scripts = worked() + [script[:-1].encode() for script, _ in PAIR.findall(manual())] + [*examples(), *MORE]
     found = []
     for script in dict.fromkeys(scripts):
         output, steps, peak, status = report(script)

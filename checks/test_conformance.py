@@ -36,6 +36,8 @@ class Conformance(unittest.TestCase):
         self.assertEqual((missed, status), ([], 0))
         self.assertGreaterEqual(int(last.split()[0]), 550)
 
+
+class Runner(unittest.TestCase):
     def test_what_a_program_does_otherwise_is_told(self):
         other = changed('s/: 29 steps/: 30 steps/; s/peak 19/peak 20/; s/full at/full before/')
         for words, keys in [(('--plain', 'cat'), ['output']), (('false',), ['status']),

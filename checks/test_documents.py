@@ -1,6 +1,6 @@
 """The documents: each link leads to an existing file and heading, the guides name only existing files of the sources,
 the words are spelt correctly, the page of the library has each fate, and the index of the checks names each file of
-checks/ once."""
+checks/ once, under the target of the Makefile that runs it."""
 import glob
 import os
 import re
@@ -83,6 +83,18 @@ class Documents(unittest.TestCase):
     def test_the_index_of_the_checks(self):
         there = [name for name in files_of(CHECKS) if name != 'README.md']
         self.assertGreater(len(there), 80)
-        rows = LISTED.findall(read(os.path.join(CHECKS, 'README.md')))
+        index = read(os.path.join(CHECKS, 'README.md'))
+        rows = LISTED.findall(index)
         self.assertEqual(len(rows), len(set(rows)))
         self.assertEqual(set(rows), set(there))
+        for target, section in re.findall(r'^## `make ([\w-]+)`(.*?)(?=^## )', index, re.MULTILINE | re.DOTALL):
+            with self.subTest(target=target):
+                self.assertEqual({name for name in there if target_of(name) == target}, set(LISTED.findall(section)))
+
+
+def target_of(name):
+    """The target of the Makefile that runs a file of checks/; none runs what the checks share."""
+    folder, file = os.path.split(name)
+    if folder == 'proved' or folder == 'machines':
+        return f'check-{folder}'
+    return 'new-function' if name == 'new_function.py' else 'check' if file.startswith('test_') else ''

@@ -33,11 +33,6 @@ class Examples(unittest.TestCase):
     def test_the_script_that_prints_itself(self):
         self.assertEqual(run(read('itself.trac'))[0], read('itself.trac'))
 
-    def test_each_script_is_described(self):
-        described = read('README.md').decode()
-        for script in glob.glob('*.trac', root_dir=FOLDER):
-            self.assertIn(f'**[{script[:-5]}]({script})**', described)
-
 
 class Exercises(unittest.TestCase):
     def test_solutions(self):
@@ -60,6 +55,13 @@ class Exercises(unittest.TestCase):
                     self.assertEqual(run(blocks['trac']), (b'', '', 0))
                 solved.append(name)
         self.assertEqual(solved, sorted(glob.glob('exercises/*.trac', root_dir=FOLDER)))
+
+
+class Descriptions(unittest.TestCase):
+    def test_each_script_is_described(self):
+        described = read('README.md').decode()
+        for script in glob.glob('*.trac', root_dir=FOLDER):
+            self.assertIn(f'**[{script[:-5]}]({script})**', described)
 
     def test_each_solution_is_explained(self):
         with open(os.path.join(TOP, 'docs', 'EXERCISES.md'), encoding='utf-8') as page:

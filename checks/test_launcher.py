@@ -14,6 +14,9 @@ HELLO = b"#(ps,hello)'"
 SOURCE = os.path.join('crates', 'trac_core', 'src', 'lib.rt')
 PROVED = os.path.join('crates', 'trac_cli', 'out', 'trac_cli')
 BUILT = os.path.join('build', 'trac')
+FILES = 'trac', 'trac_trace', 'trac_terminal', 'Makefile', 'VERSION', 'CHANGELOG.md', 'crates.txt'
+# Of each crate some sources are enough: the launcher looks only at their times and their checksum.
+SOURCES = '/src/lib.rt', '/src/main.rt', '/specs/Lists.antt'
 UNITS = 4
 ENGINE = os.path.join('hosts', 'c', 'trac_engine.c')
 # A compiler that records its arguments, and writes a program that prints its own name.
@@ -49,8 +52,7 @@ class Launcher(unittest.TestCase):
         self.top, self.tools, self.calls = (os.path.join(self.folder, name) for name in ('top', 'tools', 'calls'))
         os.mkdir(self.tools)
         for name in tracked():
-            if name.startswith(('hosts/c/', 'crates')) or name in (
-                    'trac', 'trac_trace', 'trac_terminal', 'Makefile', 'VERSION', 'CHANGELOG.md'):
+            if name.startswith('hosts/c/') or name in FILES or name.startswith('crates/') and name.endswith(SOURCES):
                 os.makedirs(os.path.dirname(os.path.join(self.top, name)), exist_ok=True)
                 shutil.copy2(os.path.join(TOP, name), os.path.join(self.top, name), follow_symlinks=False)
         self.tool('cc', COMPILER.format(calls=self.calls))
@@ -319,24 +321,22 @@ class Clone(unittest.TestCase):
     def test_hello_with_a_c_compiler_alone(self):
         """The first output of a clone, with only a compiler, the shell and the most basic tools on the path: no kit, no
         make, no Python."""
-        for compilers in COMPILERS:
-            with self.subTest(compilers=compilers):
-                self.say_hello(PLAIN + compilers)
+        with tempfile.TemporaryDirectory() as top:
+            subprocess.run(['cp', '-a', '--parents', '-t', top, *tracked()], cwd=TOP, check=True)
+            for compilers in COMPILERS:
+                with self.subTest(compilers=compilers):
+                    shutil.rmtree(os.path.join(top, 'build'), ignore_errors=True)
+                    self.say_hello(top, PLAIN + compilers)
 
-    def say_hello(self, plain):
-        with tempfile.TemporaryDirectory() as folder:
-            tools, top = os.path.join(folder, 'tools'), os.path.join(folder, 'top')
-            os.mkdir(tools)
+    def say_hello(self, top, plain):
+        with tempfile.TemporaryDirectory() as tools:
             for name in plain:
                 os.symlink(shutil.which(name), os.path.join(tools, name))
-            for name in tracked():
-                os.makedirs(os.path.dirname(os.path.join(top, name)), exist_ok=True)
-                shutil.copy2(os.path.join(TOP, name), os.path.join(top, name), follow_symlinks=False)
             done = subprocess.run([os.path.join(top, 'trac'), '--report'], input=HELLO, capture_output=True,
                                   env={'PATH': tools}, timeout=120, check=False)
-            self.assertEqual(done.stdout, b'hello')
-            self.assertIn(b'trac: 29 steps, peak 19 cells\n', done.stderr)
-            self.assertEqual(done.returncode, 0)
+        self.assertEqual(done.stdout, b'hello')
+        self.assertIn(b'trac: 29 steps, peak 19 cells\n', done.stderr)
+        self.assertEqual(done.returncode, 0)
 
     def test_the_launcher_passes_words_devices_and_status(self):
         done = subprocess.run([LAUNCHER, '--cells', '18', '--report'], input=HELLO, capture_output=True, check=False)

@@ -1,6 +1,7 @@
 """The module for JavaScript does in Node what the program does: each script in each room and with each allowance, in
 one run and in turns, and sessions. In SpiderMonkey, the engine of Firefox, it does the same, and meets the cases of
 conformance/."""
+import functools
 import glob
 import json
 import os
@@ -30,34 +31,37 @@ def lines_of_rows():
     return lines((row.script, row.cells, row.allowed) for row in rows())
 
 
-class Module(unittest.TestCase):
-    @classmethod
-    def setUpClass(cls):
-        make('npm')
-        done = subprocess.run(
-            ['node', os.path.join(TOP, 'checks', 'runs.mjs'), os.path.join(PACKAGE, 'trac.mjs')],
-            input=lines_of_rows(), capture_output=True, timeout=300, check=True)
-        cls.answers = json.loads(done.stdout)
+@functools.cache
+def answers():
+    """What the module does in Node with the rows, and with a session."""
+    make('npm')
+    done = subprocess.run(['node', os.path.join(TOP, 'checks', 'runs.mjs'), os.path.join(PACKAGE, 'trac.mjs')],
+                          input=lines_of_rows(), capture_output=True, timeout=300, check=True)
+    return json.loads(done.stdout)
 
+
+class Module(unittest.TestCase):
     def test_each_row(self):
-        self.assertEqual(len(self.answers['told']), len(rows()))
-        for row, told in zip(rows(), self.answers['told']):
+        self.assertEqual(len(answers()['told']), len(rows()))
+        for row, told in zip(rows(), answers()['told']):
             with self.subTest(row=row):
                 self.assertEqual(
                     (bytes(told['output']), told['steps'], told['peak'], FATES[told['fate']]),
                     (row.output, row.steps, row.peak, row.status))
 
     def test_each_row_by_turns(self):
-        self.assertGreater(len(self.answers['turned']), len(rows()))
-        for place, told in self.answers['turned']:
+        self.assertGreater(len(answers()['turned']), len(rows()))
+        for place, told in answers()['turned']:
             row = rows()[place]
             with self.subTest(row=row):
                 self.assertEqual(
                     (bytes(told['output']), told['steps'], told['peak'], FATES[told['fate']]),
                     (row.output, row.steps, row.peak, row.status))
 
+
+class Sessions(unittest.TestCase):
     def test_kept_forms(self):
-        kept = self.answers['kept']
+        kept = answers()['kept']
         self.assertEqual(kept['told'], [['', 'input ended', 21], ['x-zx', 'input ended', 38],
                                         ['x<^><1>z', 'input ended', 8]])
         seen = kept['seen']
@@ -70,7 +74,7 @@ class Module(unittest.TestCase):
         self.assertEqual(seen['parts'], {'store': 11, 'neutral': 0, 'free': 989, 'active': 0})
 
     def test_a_session_that_is_restored(self):
-        answer = self.answers['restored']
+        answer = answers()['restored']
         self.assertEqual(answer['told'], ['wants input', 'ax', 'ay', 'z', 'RangeError', True])
         seen = answer['seen']
         ps = [256, *b'ps', 258]
@@ -80,11 +84,11 @@ class Module(unittest.TestCase):
         self.assertEqual(seen['parts'], {'store': 0, 'neutral': 12, 'free': 985, 'active': 3})
 
     def test_limits_that_are_refused(self):
-        self.assertEqual(self.answers['refused'], ['RangeError'] * 8)
+        self.assertEqual(answers()['refused'], ['RangeError'] * 8)
 
     def test_text_and_version(self):
         with open(os.path.join(TOP, 'VERSION'), encoding='utf-8') as file:
-            self.assertEqual((self.answers['text'], self.answers['version']), ('été', file.read().strip()))
+            self.assertEqual((answers()['text'], answers()['version']), ('été', file.read().strip()))
 
 
 class SecondEngine(unittest.TestCase):

@@ -9,13 +9,13 @@ from test_manual_traces import Traces
 from test_module import Module
 from test_pipes import Closed, Streams
 from test_program import Devices, Memory, Program, Stack
-from test_rooms import Rooms
+from test_rooms import Rows
 from test_trace import Costs, Lines, StandardError, Tables, Views
 from test_tracer_words import InterruptedTraces, Words
 from test_warnings import Warnings
 
 __all__ = ['Closed', 'Conformance', 'Costs', 'Devices', 'Examples', 'Exercises', 'FullBlocks', 'InterruptedTraces',
-           'Interruptions', 'Lines', 'Manual', 'Memory', 'Module', 'Program', 'Refused', 'Rooms', 'Stack',
+           'Interruptions', 'Lines', 'Manual', 'Memory', 'Module', 'Program', 'Refused', 'Rows', 'Stack',
            'StandardError', 'Streams', 'Tables', 'Traces', 'Views', 'Warnings', 'Words']
 
 

@@ -253,17 +253,17 @@ TRAC_API trac_report trac_run(trac_cell *block, size_t cells, uint64_t steps, co
 TRAC_API trac_report trac_run_zeroed(trac_cell *block, size_t cells, uint64_t steps, const void *script,
                                      size_t script_length, void *output, size_t output_length);
 
-/* Runs a script as trac_run does, whose bytes come from `read` and whose prints go to `write`: each call of either gets
- * `context`. What a step prints is written before the next step, and `read` is called where a step reads more than
- * there is, never behind the end of the input. What is read stands in `buffer` until it is consumed, and what a step
- * prints goes through what is free of it, or where that is less through 256 bytes on the stack. A string has to stand
- * there whole, with its meta character: a buffer of as many bytes as the block has cells is always enough.
+/* Runs a script as trac_run does: the script's bytes come from `read`, and what it prints goes to `write`. Each call of
+ * either gets `context`. What a step prints is written before the next step, and `read` is called where a step reads
+ * more than there is, never behind the end of the input. What is read stays in `buffer` until it is consumed. What a
+ * step prints goes through the free part of `buffer`, or through 256 bytes on the stack where that part is smaller.
+ * `buffer` must hold a whole string with its meta character: as many bytes as the block has cells are always enough.
  *
  * TRAC_INPUT_FAILED: `read` gave TRAC_FAILED, or more than `room`. TRAC_OUTPUT_FAILED: `write` gave TRAC_FAILED, 0, or
- * more than `length`; `written` counts the bytes that were taken before. TRAC_NO_MEMORY: the next step reads a string
- * that the buffer can't hold, which it is full of; the step wasn't done. TRAC_REFUSED, as from trac_run, and where
- * `read` or `write` is null: neither was called. Else the report is that of trac_run with the same bytes and an output
- * that is never full. The bytes that were read and not consumed stand at the front of `buffer` then.
+ * more than `length`; `written` counts the bytes that were taken before. TRAC_NO_MEMORY: the buffer is full, and the
+ * next step reads a string that it can't hold; the step wasn't done. TRAC_REFUSED, as from trac_run, and where `read`
+ * or `write` is null: neither was called. Else the report is that of trac_run with the same bytes and an output that is
+ * never full. The bytes that were read and not consumed stand at the front of `buffer` then.
  *
  * `read` and `write` may do anything but touch the block and the buffer; they may use other machines and make runs of
  * their own. Either may leave the run by longjmp, or by an exception of C++ where the engine was compiled with
@@ -296,8 +296,8 @@ TRAC_API uint32_t trac_open_zeroed(trac_machine *machine, trac_cell *block, size
 /* Tells a machine where its block is now. Call it where the block, or a copy of the machine with a copy of the block,
  * stands at another address than the machine was last told, before anything else is asked of it: without it the machine
  * reads and writes the cells at the old address. The block has as many cells as before, and holds what it held. The
- * machine's own words may be moved or copied without it. Places in the list of its forms are none any more. Gives 0; or
- * TRAC_REFUSED, and nothing has changed. */
+ * machine's own words may be moved or copied without it. Gives 0, and each trac_form of the machine is invalid
+ * afterwards; or TRAC_REFUSED, and nothing has changed. */
 TRAC_API uint32_t trac_moved(trac_machine *machine, trac_cell *block);
 
 /* A turn: makes steps, at most `most`, over these bytes of input, behind which the input ends where `ended` is not 0.
@@ -351,8 +351,8 @@ TRAC_API size_t trac_printed(const trac_machine *machine, size_t from, void *to,
 TRAC_API trac_report trac_skip_print(trac_machine *machine);
 
 /* ---- Forms from outside, without a step: whether a run goes on, is over or has used up its cells. Each gives 0, and
- * places in the list of forms are none any more; or TRAC_REFUSED, and nothing has changed. The peak doesn't count what
- * they need. Where a length is 0 its pointer may be null. */
+ * each trac_form of the machine is invalid afterwards; or TRAC_REFUSED, and nothing has changed. The peak doesn't count
+ * what they need. Where a length is 0 its pointer may be null. */
 
 /* Makes a form of a name, the codes of a body, as trac_form_codes gives them, and a pointer, from 0 to the number of
  * codes. It becomes the last form; an older one of that name is removed. Refused where a code is none of a byte or of
@@ -383,12 +383,13 @@ TRAC_API uint32_t trac_set_meta(trac_machine *machine, uint32_t byte);
  * front of `to`. 0 where the machine or a pointer can't be used. */
 TRAC_API size_t trac_save(const trac_machine *machine, void *to, size_t room);
 
-/* Takes an image into a machine: its forms, in their order, and its meta character stand in the place of the machine's
- * own. The strings stay, and so do the steps, the peak and the end of a run. trac_save then gives the same bytes.
- * Places in the list of forms are none any more. Gives 0; or TRAC_REFUSED, and nothing has changed, where a byte is
- * missing or changed, for another version, for two forms of one name, a pointer behind its body or a gap with an
- * ordinal of 0 or over 16,777,216, and where the forms need more cells than the strings leave. Each pair of names is
- * compared: 1,000 forms take some hundredths of a second, and ten times as many a hundred times as long. */
+/* Takes an image into a machine: its forms, in their order, and its meta character replace the machine's own. The
+ * strings stay, and so do the steps, the peak and the end of a run. trac_save then gives the same bytes. Gives 0, and
+ * each trac_form of the machine is invalid afterwards; or TRAC_REFUSED, and nothing has changed. It refuses an image of
+ * which a byte is missing or changed, an image of another version, one with two forms of one name, with a pointer
+ * behind its body or with a gap whose ordinal is 0 or over 16,777,216, and one whose forms need more cells than the
+ * strings leave. Each pair of names is compared: 1,000 forms take some hundredths of a second, and ten times as many a
+ * hundred times as long. */
 TRAC_API uint32_t trac_load(trac_machine *machine, const void *from, size_t length);
 
 /* ---- A run that is shown. */
@@ -401,9 +402,10 @@ TRAC_API uint32_t trac_load(trac_machine *machine, const void *from, size_t leng
  *     trace.from = 1, trace.to = UINT64_MAX, trace.width = 100;
  *
  * `end` says what is behind these bytes of input: TRAC_INPUT_GOES_ON, TRAC_INPUT_ENDS, or TRAC_INPUT_FAILS, and then a
- * step that reads past them ends the run with TRAC_INPUT_FAILED. Each later step of a run that is over makes none, and
- * tells again how it ended. The peak of the report is that of the trace: each step takes the machine's over, which
- * then counts from 0 again. A trace is of one run: behind trac_again give it TRAC_NO_TRACE again.
+ * step that reads past them ends the run with TRAC_INPUT_FAILED. When the run is over, each later call makes no step,
+ * and reports again how the run ended. The peak of the report is the trace's own: each step moves the machine's peak
+ * into it, and the machine's peak then counts from 0 again. A trace is of one run: behind trac_again give it
+ * TRAC_NO_TRACE again.
  *
  * The lists that a step needs stand in `memory`, of which nothing is used afterwards; `lines` of as many bytes are
  * always enough. A megabyte is enough for steps and calls whose width is bound, in blocks of up to 50,000 cells. With
