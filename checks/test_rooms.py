@@ -66,6 +66,12 @@ class Rooms(unittest.TestCase):
 
 
 class Rows(unittest.TestCase):
+    def test_none_is_lost(self):
+        self.assertEqual({name: len(rows) for name, rows in tables().items()}, {
+            'SCANNED': 16, 'READ': 5, 'HALTING': 2, 'FORMS': 14, 'PARTS': 5, 'VALUES': 23, 'DISPLAYED': 4,
+            'REPORTS': 30})
+        self.assertTrue(all('input' in row and 'output' in row for rows in tables().values() for row in rows))
+
     def test_the_program_does_what_they_say(self):
         for row in (row for rows in tables().values() for row in rows):
             told = {key: ''.join(row.get(key, [otherwise])) for key, otherwise in (
