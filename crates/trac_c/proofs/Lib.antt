@@ -8,7 +8,7 @@ mod KeptLooks
 mod ListedForms
 mod NextTexts
 mod Printing
-mod Roomy
+mod Overflow
 mod StepLines
 mod TurnBytes
 mod Waiting

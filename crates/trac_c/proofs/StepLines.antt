@@ -17,7 +17,7 @@ use Rattle.trac_views.specs.declared.views.Views.{Views}
 use Rattle.trac_tracer.specs.ShownRuns.{AreLinesOf, StepDone}
 use Rattle.trac_tracer.proofs.StepByStep.{step_of}
 use Rattle.trac_c.specs.Buffers.{laid}
-use Rattle.trac_c.specs.Traced.{LosesLines, Tells, TellsStep, WithEnd, behind, fate_of, is_waiting, last_shown, reported, step_told, uncounted, views_of, written_text}
+use Rattle.trac_c.specs.Traced.{LosesLines, Tells, AddsStep, WithEnd, behind, fate_of, is_waiting, last_shown, reported, step_told, uncounted, views_of, written_text}
 use Rattle.trac_c.specs.Turns.{TurnedOrOver}
 use Rattle.trac_c.specs.declared.trace.TracTrace.{TracTrace}
 

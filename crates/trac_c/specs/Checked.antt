@@ -45,6 +45,6 @@ Checked room allowance script old_buffer buffer told =
     ((told ≡ no_memory) × (buffer ≡ old_buffer)) ⊎ Findings room allowance script old_buffer buffer told
 
 -- more cells than a machine may have are refused, and the buffer stays as it is; else the script is checked
-pub record CheckTold (room allowance : ℕ) (script old_buffer buffer : Text) (told : TracReport) : Type 0 where
+pub record CheckReported (room allowance : ℕ) (script old_buffer buffer : Text) (told : TracReport) : Type 0 where
   pub too_many : 16777216 < room → (told ≡ refused) × (buffer ≡ old_buffer)
   pub checked : room ≤ 16777216 → Checked room allowance script old_buffer buffer told

@@ -22,8 +22,8 @@ delivery_of how =
     else (if how == 1 then Some Scanned else (if how == 2 then Some Unscanned else None))
 
 -- the report of a step that reads and prints nothing
-abbrev pub told_step : Option Fate → MachineState → TracReport
-told_step fate m = record {
+abbrev pub reported_step : Option Fate → MachineState → TracReport
+reported_step fate m = record {
   fate = answer_number fate;
   peak = m.peak;
   steps = m.steps;
@@ -43,12 +43,12 @@ ValueGiven how value old fate new =
     Answered how value (moment old source written) fate (moment new source written)))
 
 -- what `told` says of a value that the host gives: there is no such way to deliver it, or no call that
--- asks for one; or the step was made, or ended the run
+-- asks for one; or the step was fresh_machine, or ended the run
 abbrev pub ValueTold : Option Delivery → Text → MachineState → TracReport → MachineState → Type 0
 ValueTold None value old told new = Refuses old told new
 ValueTold (Some how) value old told new =
     ((IsAnswerable old → ⊥) × Refuses old told new)
-    ⊎ ((fate : Option Fate) × ((told ≡ told_step fate new) × ValueGiven how value old fate new))
+    ⊎ ((fate : Option Fate) × ((told ≡ reported_step fate new) × ValueGiven how value old fate new))
 
 -- the host gives a value for the call that the next step of `old` performs
 pub record GivesValue (how : ℕ) (value : Text) (old : MachineState) (told : TracReport)

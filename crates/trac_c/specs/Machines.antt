@@ -10,7 +10,7 @@ use Rattle.std.specs.Mem.{type_size}
 use Rattle.trac_space.specs.contracts.cell.Cell as Cell
 use Rattle.trac_space.specs.declared.cell.Cell.TheVariants.{Byte}
 use Rattle.trac_core.specs.contracts.machine.Machine as Machine
-use Rattle.trac_core.specs.Machine.{MachineState, made}
+use Rattle.trac_core.specs.Machine.{MachineState, fresh_machine}
 
 -- a machine in this state lies at a place, and has its block for good
 abbrev pub machine_at : Ptr → MachineState → Fml
@@ -40,7 +40,7 @@ Opening cells answer = ((cells ≤ 16777216) × (answer ≡ 0)) ⊎ ((16777216 <
 -- what there is after an opening: a new machine, which has the block, or the rooms as before
 abbrev pub opened_by :
     (cells steps : ℕ) → (place block : Ptr) → (answer : ℕ) → Opening cells answer → Fml
-opened_by cells steps place block answer (inl taken) = machine_at place (made cells steps)
+opened_by cells steps place block answer (inl taken) = machine_at place (fresh_machine cells steps)
 opened_by cells steps place block answer (inr refused) =
     fsep (machine_room place) (cells_room cells block)
 
@@ -51,7 +51,7 @@ opened cells steps place block answer =
 -- what there is after an opening over zero bytes: a new machine, which has the block, or what was there before
 abbrev pub opened_zeroed_by :
     (cells steps : ℕ) → (place block : Ptr) → (answer : ℕ) → Opening cells answer → Fml
-opened_zeroed_by cells steps place block answer (inl taken) = machine_at place (made cells steps)
+opened_zeroed_by cells steps place block answer (inl taken) = machine_at place (fresh_machine cells steps)
 opened_zeroed_by cells steps place block answer (inr refused) =
     fsep (machine_room place) (zeroed cells block)
 

@@ -34,7 +34,7 @@ course_of room allowance script left printed =
 
 -- `told` gives `report` in numbers, of a run in `room` cells with at most `allowance` steps; its output
 -- stands at the front of the buffer, and `left` is what it left of the script
-pub record TellsRun (room allowance : ℕ) (script buffer : List ℕ) (told : TracReport)
+pub record AddsRun (room allowance : ℕ) (script buffer : List ℕ) (told : TracReport)
     (left : List ℕ) (report : Report) : Type 0 where
   pub reports :
       Reports report.fate (course_of room allowance script left (take told.written buffer)) report
@@ -49,11 +49,11 @@ pub record TellsRun (room allowance : ℕ) (script buffer : List ℕ) (told : Tr
 abbrev pub Ran : (room allowance : ℕ) → (script buffer : List ℕ) → TracReport → Type 0
 Ran room allowance script buffer told =
     (left : List ℕ) × ((report : Report) ×
-    TellsRun room allowance script buffer told left report)
+    AddsRun room allowance script buffer told left report)
 
 -- more cells than a machine may have are refused, and the buffer stays as it is; else the report
 -- tells the run
-pub record Told (room allowance : ℕ) (script old_buffer buffer : List ℕ) (told : TracReport)
+pub record ReportsRun (room allowance : ℕ) (script old_buffer buffer : List ℕ) (told : TracReport)
     : Type 0 where
   pub too_many : 16777216 < room → (told ≡ refused) × (buffer ≡ old_buffer)
   pub ran : room ≤ 16777216 → Ran room allowance script buffer told

@@ -9,7 +9,7 @@ use Rattle.trac_devices.specs.Devices.{Stream}
 use Rattle.trac_core.specs.Machine.{MachineState, Answers, moment}
 use Rattle.trac_events.specs.Calls.{IsSeen, depth_in}
 use Rattle.trac_events.specs.declared.before.Before.{Before}
-use Rattle.trac_views.specs.Faults.{TellsEnd}
+use Rattle.trac_views.specs.Faults.{AddsEnd}
 use Rattle.trac_views.specs.Lines.{folded_text, head_text}
 use Rattle.trac_views.specs.declared.views.Views.{Views}
 use Rattle.trac_tracer.specs.ShownRuns.{AreLinesOf, StepDone, first_progress}
@@ -76,7 +76,7 @@ abbrev pub answer_number : Option Fate → ℕ
 answer_number None = 0
 answer_number (Some fate) = number fate
 
--- whether a report says that no step was made: its turn waits for input, for room, or for the host's value of
+-- whether a report says that no step was fresh_machine: its turn waits for input, for room, or for the host's value of
 -- a call
 abbrev pub is_waiting : ℕ → Bool
 is_waiting fate = if fate == 7 then true else (if fate == 8 then true else (fate == 11))
@@ -91,7 +91,7 @@ FailsBehind input buffer old told new =
     (moment new left (take told.written buffer)))))
 
 -- a machine makes a step as a turn does, behind whose input more may come (`ended` is 0), the input ends (1) or reading
--- fails (2). Where it fails, and the turn would wait for input, the step is made, and ends the run
+-- fails (2). Where it fails, and the turn would wait for input, the step is fresh_machine, and ends the run
 abbrev pub Stepped : (ended : ℕ) → (input buffer : Text) → (old : MachineState) → TracReport → (new : MachineState)
     → Type 0
 Stepped ended input buffer old told new =
@@ -102,7 +102,7 @@ Stepped ended input buffer old told new =
 -- the lines of a step, and those on the end of the run where the step ended it
 abbrev pub WithEnd : Views → Option Fate → (peak : ℕ) → MachineState → (lines all : List ℕ) → Type 0
 WithEnd views None peak m lines all = all ≡ lines
-WithEnd views (Some fate) peak m lines all = TellsEnd views fate peak m lines all
+WithEnd views (Some fate) peak m lines all = AddsEnd views fate peak m lines all
 
 -- all lines of a step, folded and with the head
 abbrev pub written_text : TracTrace → List ℕ → List ℕ
@@ -137,7 +137,7 @@ step_told trace turn buffer old next after = record {
 }
 
 -- the lines of a step were put to the front of a buffer: `trace` is the one before the step, with the peak before it
-pub record TellsStep (trace after : TracTrace) (done : StepDone) (old_lines lines : List ℕ) : Type 0 where
+pub record AddsStep (trace after : TracTrace) (done : StepDone) (old_lines lines : List ℕ) : Type 0 where
   pub own : List ℕ
   pub all : List ℕ
   pub tells : AreLinesOf (views_of trace) done own
@@ -170,10 +170,10 @@ pub record Tells (trace after : TracTrace) (turn told : TracReport) (done : Step
       (told ≡ reported turn.fate after.peak turn) × (after ≡ trace) × (lines ≡ old_lines)
   pub tells :
       is_waiting turn.fate ≡ false →
-      ((told ≡ reported turn.fate after.peak turn) × TellsStep trace after done old_lines lines)
+      ((told ≡ reported turn.fate after.peak turn) × AddsStep trace after done old_lines lines)
       ⊎ ((told ≡ reported 10 after.peak turn) × LosesLines trace after done old_lines lines)
 
--- a machine made a step, or waits, and it was told
+-- a machine fresh_machine a step, or waits, and it was told
 abbrev pub StepTraced : (ended : ℕ) → (input buffer old_lines lines : Text) → (trace : TracTrace)
     → (old : MachineState) → TracReport → (after : TracTrace) → (new : MachineState) → Type 0
 StepTraced ended input buffer old_lines lines trace old told after new =
@@ -182,7 +182,7 @@ StepTraced ended input buffer old_lines lines trace old told after new =
     × ((new ≡ uncounted next)
     × Tells trace after turn told (step_told trace turn buffer old next after) old_lines lines)))
 
--- the lent memory is too small to look at the step: none was made
+-- the lent memory is too small to look at the step: none was fresh_machine
 abbrev pub Unseen : (old_buffer buffer old_lines lines : Text) → (trace : TracTrace) → (old : MachineState)
     → TracReport → (after : TracTrace) → (new : MachineState) → Type 0
 Unseen old_buffer buffer old_lines lines trace old told after new =

@@ -18,7 +18,7 @@ use Rattle.trac_core.specs.Session.{awaited, next_function, next_printed}
 use Rattle.trac_c.specs.Reports.{number}
 use Rattle.trac_c.specs.Held.{listed}
 use Rattle.trac_c.specs.declared.devices.GivenSource.{GivenSource}
-use Rattle.trac_c.specs.declared.devices.RoomySink.{RoomySink}
+use Rattle.trac_c.specs.declared.devices.OverflowSink.{OverflowSink}
 use Rattle.trac_c.specs.declared.report.TracReport.{TracReport}
 use Rattle.trac_c.specs.declared.turn.Turn.{Turn}
 use Rattle.trac_c.specs.declared.turn.Turn.TheVariants.{Went, Waits, Full, Asks, Over}
@@ -101,15 +101,15 @@ SomeTurned ended most old last new =
     (done : ℕ) × ((before : Moment) × Turned ended most old last new done before)
 
 -- what was written to a sink over a buffer and one byte more
-abbrev pub written_to : RoomySink → Text
+abbrev pub written_to : OverflowSink → Text
 written_to sink = take sink.len sink.room.now ++ listed sink.behind
 
 -- the moment at which a machine stands between a source and a sink
-abbrev pub stands : MachineState → GivenSource → RoomySink → Moment
+abbrev pub stands : MachineState → GivenSource → OverflowSink → Moment
 stands m source sink = moment m (stream_in source.slice) (written_to sink)
 
 -- the next step of `m` prints `printed` bytes, whatever the input, and the sink has no room for them
-abbrev pub LacksRoom : ℕ → MachineState → RoomySink → Type 0
+abbrev pub LacksRoom : ℕ → MachineState → OverflowSink → Type 0
 LacksRoom printed m sink =
     (length sink.room.now < sink.len + printed)
     × ((input : Input) → printed ≡ length (next_printed m input))

@@ -2,7 +2,7 @@
 ghost use Rattle.std.specs.Prelude.{◌≡◌, ◌≤◌, IfErr, IfOk, length};
 ghost use Rattle.trac_lent.specs.Units.{units_at};
 ghost use Rattle.trac_space.specs.contracts.cell.Cell.{the_row as CellRow};
-ghost use Rattle.trac_c.specs.Checked.{CheckTold, Checked, Findings};
+ghost use Rattle.trac_c.specs.Checked.{CheckReported, Checked, Findings};
 ghost use denote.Array.{Array};
 ghost use denote.RawPtr.{room_at};
 ghost use types.Logic.{sem};
@@ -32,7 +32,7 @@ pub unsafe extern "C" fn trac_engine_check(
 ) -> TracReport
     requires* { sem 𝓛 (room_at (Array CellRow cells) block) ∗ sem 𝓛 (units_at units memory) }
     ensures* { sem 𝓛 (room_at (Array CellRow cells) block) ∗
-        ⌜ CheckTold cells steps script.now to.old to.new result ⌝ }
+        ⌜ CheckReported cells steps script.now to.old to.new result ⌝ }
 {
     if cells > 16_777_216 {
         return refused();

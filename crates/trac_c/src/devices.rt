@@ -56,7 +56,7 @@ impl Source for GivenSource<'_> {
 /// A sink over a buffer and one byte behind it. It fails only where that byte is taken too: so what
 /// the buffer has room for never fails.
 #[derive(Drop)]
-pub(crate) struct RoomySink<'a> {
+pub(crate) struct OverflowSink<'a> {
     room: &'a mut [u8],
     len: usize,
     behind: Option<u8>,
@@ -67,15 +67,15 @@ pub(crate) struct RoomySink<'a> {
     ghost bounded: { length room.now < 2 ^ 64 },
 }
 
-impl<'a> RoomySink<'a> {
+impl<'a> OverflowSink<'a> {
     /// A sink over this buffer, to which nothing was written.
-    pub(crate) fn new(room: &'a mut [u8]) -> RoomySink<'a>
+    pub(crate) fn new(room: &'a mut [u8]) -> OverflowSink<'a>
         ensures same_room { result.room.ghost_name ≡ room.entry.ghost_name }
         ensures as_it_was { result.room.now ≡ room.old }
         ensures empty { (result.len ≡ 0) × (result.behind ≡ None) }
         ensures none_failed { result.failures ≡ 0 }
     {
-        RoomySink {
+        OverflowSink {
             room,
             len: 0,
             behind: None,
@@ -99,7 +99,7 @@ impl<'a> RoomySink<'a> {
     }
 }
 
-impl Sink for RoomySink<'_> {
+impl Sink for OverflowSink<'_> {
     ghost tells = { λ _. Unit {0} };
 
     ghost written = { λ s. take s.len s.room.now ++ listed s.behind };

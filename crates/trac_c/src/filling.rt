@@ -5,7 +5,7 @@ ghost use Rattle.trac_c.specs.Held.{buffer_code};
 ghost use Rattle.trac_checker.specs.WrittenBytes.{bytes_of};
 ghost use Rattle.trac_c.specs.Buffers.{laid, laid_from};
 
-use trac_checker::Unkept;
+use trac_checker::NullSink;
 use trac_core::{Characters, Sink, SinkFailed};
 
 /// Puts bytes to the front of a buffer, as many as fit, and gives how many fit.
@@ -126,7 +126,7 @@ pub(crate) struct PartSink<'a> {
     size: usize,
     len: usize,
     /// All that was put, as contracts see it: it takes no memory.
-    all: &'a mut Unkept,
+    all: &'a mut NullSink,
     ghost passing: { before ≡ from - length (bytes_of all.now.written.value) },
     ghost filled: { len ≡ min (length (drop from (bytes_of all.now.written.value))) (length room.now) },
     ghost bounded: { (from < 2 ^ 64) × (size < 2 ^ 64) },
@@ -136,7 +136,7 @@ pub(crate) struct PartSink<'a> {
 
 impl<'a> PartSink<'a> {
     /// A sink over this buffer, which passes over the first `from` bytes.
-    pub(crate) fn new(from: usize, room: &'a mut [u8], all: &'a mut Unkept) -> PartSink<'a>
+    pub(crate) fn new(from: usize, room: &'a mut [u8], all: &'a mut NullSink) -> PartSink<'a>
         requires none { bytes_of all.old.written.value ≡ [] }
         ensures same_room { result.room.ghost_name ≡ room.entry.ghost_name }
         ensures size { length result.room.now ≡ length room.old }

@@ -15,7 +15,7 @@ ghost use Rattle.trac_language.specs.Store.{form_named};
 
 use crate::filling::PartSink;
 use crate::strings::cells_from;
-use trac_checker::Unkept;
+use trac_checker::NullSink;
 use trac_core::{Cell, Item, Machine, StoredForm, display_len, show_form};
 use trac_image::put;
 use trac_language::Function;
@@ -183,7 +183,7 @@ fn fill_with(form: &StoredForm, from: usize, room: &mut [u8])
     requires { length room.old ≤ length (drop from (show_form form.now)) }
     ensures { room.new ≡ take (length room.old) (drop from (show_form form.now)) }
 {
-    let mut all = Unkept::new();
+    let mut all = NullSink::new();
     let mut sink = PartSink::new(from, room, &mut all);
     show_part(form, &mut sink);
 }

@@ -2,7 +2,7 @@
 ghost use Rattle.std.specs.Prelude.{◌≡◌, None, Some, MatchOption};
 ghost use Rattle.trac_core.specs.declared.machine.answering.Delivery.{Delivery};
 ghost use Rattle.trac_core.specs.Machine.{MachineState, KeepsSettings};
-ghost use Rattle.trac_c.specs.Hosting.{GivesValue, delivery_of, stopping, told_step};
+ghost use Rattle.trac_c.specs.Hosting.{GivesValue, delivery_of, stopping, reported_step};
 ghost use Rattle.trac_c.specs.Machines.{machine_at, machine_after};
 ghost use types.Logic.{sem};
 
@@ -66,7 +66,7 @@ fn delivery(how: u32) -> Option<Delivery>
 
 /// The report of a step that reads and prints nothing, and after which a machine stands so.
 pub(crate) fn step_report(machine: &Machine<'static>, fate: Option<Fate>) -> TracReport
-    ensures { result ≡ told_step fate machine.now }
+    ensures { result ≡ reported_step fate machine.now }
 {
     TracReport {
         fate: answer_number(fate),

@@ -1,7 +1,7 @@
 //! A run at once.
 ghost use Rattle.std.specs.Prelude.{◌≡◌, ℕ, ◌+◌, ◌-◌, ◌^◌, ◌<◌, ◌≤◌, List, length};
 ghost use Rattle.trac_space.specs.contracts.cell.Cell.{the_row as CellRow};
-ghost use Rattle.trac_c.specs.Reports.{Told, Ran};
+ghost use Rattle.trac_c.specs.Reports.{ReportsRun, Ran};
 ghost use base.Fml.{fex};
 ghost use base.Fraction.{full_share};
 ghost use denote.Array.{Array};
@@ -25,7 +25,7 @@ pub unsafe extern "C" fn trac_engine_run(
 ) -> TracReport
     requires* { sem 𝓛 (room_at (Array CellRow cells) block) }
     ensures* { sem 𝓛 (room_at (Array CellRow cells) block) ∗
-        ⌜ Told cells steps script.now output.old output.new result ⌝ }
+        ⌜ ReportsRun cells steps script.now output.old output.new result ⌝ }
 {
     if cells > 16_777_216 {
         return refused();

@@ -243,9 +243,9 @@ fn show_in<A: Allocator + Copy>(
         return reported(&turn, turn.fate, trace.peak);
     }
     let fate = fate_of(turn.fate);
-    let told = shown.tell(&before, machine, fate, need, &output[..turn.written]);
+    let added = shown.add_lines(&before, machine, fate, need, &output[..turn.written]);
     let after = trace.behind(shown.progress());
-    match lay_told(alloc, &mut shown, told, trace, fate, machine, lines) {
+    match lay_lines(alloc, &mut shown, added, trace, fate, machine, lines) {
         Ok(lines) => {
             *trace = TracTrace {
                 lines: lines.bytes,
@@ -275,26 +275,26 @@ fn reported(turn: &TracReport, fate: u32, peak: u32) -> TracReport
     }
 }
 
-/// Lines that were told: how many bytes they have, and the last step of which something was shown.
+/// Lines that were added: how many bytes they have, and the last step of which something was shown.
 #[derive(Clone, Copy)]
 struct Lines {
     bytes: u64,
     step: u64,
 }
 
-/// Puts the lines of a step that was told, and those on the end of the run where that is over, to the front of a
+/// Puts the lines of a step that was added, and those on the end of the run where that is over, to the front of a
 /// buffer. Fails only if memory runs out, or ran out before, and then the buffer stays as it is.
-fn lay_told<A: Allocator + Copy>(
+fn lay_lines<A: Allocator + Copy>(
     alloc: A,
     shown: &mut Shown<A>,
-    told: Result<(), AllocError>,
+    added: Result<(), AllocError>,
     trace: &TracTrace,
     fate: Option<Fate>,
     machine: &Machine<'static>,
     room: &mut [u8],
 ) -> Result<Lines, AllocError>
     requires { shown.old.views.columns ≡ trace.now.columns }
-    ensures worked { IfOk result (λ _. is_ok told ≡ true) }
+    ensures worked { IfOk result (λ _. is_ok added ≡ true) }
     ensures ok { IfOk result (λ lines. (all : List ℕ)
         × (WithEnd shown.old.views fate shown.old.peak machine.now shown.old.lines.items all
         × (room.new ≡ laid (written_text trace.now all) room.old)
@@ -302,7 +302,7 @@ fn lay_told<A: Allocator + Copy>(
         × (lines.step ≡ last_shown trace.now shown.old.lines.items machine.now.steps))) }
     ensures err { IfErr result (λ _. room.new ≡ room.old) }
 {
-    told?;
+    added?;
     let step = if shown.lines().is_empty() {
         trace.shown
     } else {
@@ -321,7 +321,7 @@ fn lay_told<A: Allocator + Copy>(
     })
 }
 
-/// Whether a report says that no step was made.
+/// Whether a report says that no step was fresh_machine.
 fn is_waiting(fate: u32) -> bool
     ensures { result ≡ is_waiting fate }
 {

@@ -7,7 +7,7 @@ ghost use Rattle.trac_c.specs.Turns.{TurnsTo, LacksRoom, is_short, is_ended, sta
 ghost use Rattle.trac_c.specs.Turns.{TurnedOrOver, turn_number, last_over, wanted_by, MayGetMore};
 ghost use Rattle.trac_core.specs.Machine.{KeepsLimits, KeepsSettings};
 
-use crate::devices::{GivenSource, RoomySink};
+use crate::devices::{GivenSource, OverflowSink};
 use crate::report::{ASKS, FULL, TracReport, WAITS, number};
 use trac_core::{Fate, Machine};
 use trac_language::Function;
@@ -40,7 +40,7 @@ pub(crate) fn take_turn(
         machine.new }
 {
     let mut source = GivenSource::new(input);
-    let mut sink = RoomySink::new(output);
+    let mut sink = OverflowSink::new(output);
     let last = go_on(machine, &mut source, &mut sink, ended != 0, most);
     TracReport {
         fate: turn_number(last),
@@ -80,7 +80,7 @@ fn turn_number(last: Turn) -> u32
 fn go_on(
     machine: &mut Machine,
     source: &mut GivenSource,
-    sink: &mut RoomySink,
+    sink: &mut OverflowSink,
     ended: bool,
     most: u64,
 ) -> Turn
@@ -120,7 +120,7 @@ fn step_on(
     machine: &mut Machine,
     function: Option<Function>,
     source: &mut GivenSource,
-    sink: &mut RoomySink,
+    sink: &mut OverflowSink,
     ended: bool,
 ) -> Turn
     requires limits { KeepsLimits machine.old }

@@ -2,7 +2,7 @@
 ghost use Rattle.std.specs.Prelude.{◌≡◌, ◌≤◌};
 ghost use Rattle.trac_space.specs.contracts.cell.Cell.{the_row as CellRow};
 ghost use Rattle.trac_c.specs.Machines.{machine_room, opened_zeroed, zeroed};
-ghost use Rattle.trac_c.specs.Reports.{Told};
+ghost use Rattle.trac_c.specs.Reports.{ReportsRun};
 ghost use denote.Array.{Array};
 ghost use denote.RawPtr.{room_at};
 ghost use types.Logic.{sem};
@@ -45,7 +45,7 @@ pub unsafe extern "C" fn trac_engine_run_zeroed(
 ) -> TracReport
     requires* { sem 𝓛 (zeroed cells block) }
     ensures* { sem 𝓛 (room_at (Array CellRow cells) block) ∗
-        ⌜ Told cells steps script.now output.old output.new result ⌝ }
+        ⌜ ReportsRun cells steps script.now output.old output.new result ⌝ }
 {
     if cells > 16_777_216 {
         return refused();

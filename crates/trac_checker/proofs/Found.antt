@@ -13,7 +13,7 @@ use Rattle.trac_warnings.specs.Findings.{is_noted, is_of_form, is_repeated, once
 use Rattle.trac_warnings.specs.Watched.{said}
 use Rattle.trac_warnings.specs.declared.findings.Findings.{Findings}
 use Rattle.trac_warnings.specs.declared.warning.Warning.{Warning}
-use Rattle.trac_checker.specs.FoundSoFar.{FoundSoFar, counts_with, found_in, is_said_again, told_with, said_cmp, with_all, with_said}
+use Rattle.trac_checker.specs.FoundSoFar.{FoundSoFar, counts_with, found_in, is_said_again, reported_with, said_cmp, with_all, with_said}
 use Rattle.trac_checker.specs.Warned.{found_of}
 
 -- an order of keys, seen by what they stand for
@@ -48,30 +48,30 @@ among text [] = refl
 among text (x ∷ texts) = ap (λ b. is_eq (slice_cmp nat_cmp text x.items) || b) (among text texts)
 
 module _ {A : Type 0} (cmp : Warning A → Warning A → Ordering) (same : (a b : Warning A) → cmp a b ≡ said_cmp (said a) (said b)) (old new : Findings A) (w : Warning A) where
-  counts-by : (again : Bool) → again ≡ is_said_again (said w) (texts_of old.told) → (again ≡ true → new.counts.entries ≡ old.counts.entries)
+  counts-by : (again : Bool) → again ≡ is_said_again (said w) (texts_of old.reported) → (again ≡ true → new.counts.entries ≡ old.counts.entries)
       → (again ≡ false → new.counts.entries ≡ insert_entry cmp old.counts.entries w (once_more (lookup (is_at (cmp w)) old.counts.entries)))
       → found_of new.counts.entries ≡ counts_with again (said w) (found_of old.counts.entries)
   counts-by true is repeated count = ap found_of (repeated refl)
   counts-by false is repeated count = ap found_of (count refl) ∙ counted said cmp said_cmp same old.counts.entries w
 
-  told-by : (none : Bool) → (none ≡ false → new.told ≡ old.told) → (none ≡ true → texts_of new.told ≡ with_text w.text.items (texts_of old.told)) → texts_of new.told ≡ told_with none w.text.items (texts_of old.told)
-  told-by true others noted = noted refl
-  told-by false others noted = ap texts_of (others refl)
+  reported-by : (none : Bool) → (none ≡ false → new.reported ≡ old.reported) → (none ≡ true → texts_of new.reported ≡ with_text w.text.items (texts_of old.reported)) → texts_of new.reported ≡ reported_with none w.text.items (texts_of old.reported)
+  reported-by true others noted = noted refl
+  reported-by false others noted = ap texts_of (others refl)
 
-  again-is : is_repeated w old.told ≡ is_said_again (said w) (texts_of old.told)
-  again-is = ap (λ b. is_of_form w.suspicion && b) (among w.text.items old.told.keys)
+  again-is : is_repeated w old.reported ≡ is_said_again (said w) (texts_of old.reported)
+  again-is = ap (λ b. is_of_form w.suspicion && b) (among w.text.items old.reported.keys)
 
   -- a warning was added
-  pub adds : (is_repeated w old.told ≡ true → new.counts.entries ≡ old.counts.entries)
-      → (is_repeated w old.told ≡ false → new.counts.entries ≡ insert_entry cmp old.counts.entries w (once_more (lookup (is_at (cmp w)) old.counts.entries)))
-      → (is_noted w.suspicion ≡ false → new.told ≡ old.told)
-      → (is_noted w.suspicion ≡ true → texts_of new.told ≡ with_text w.text.items (texts_of old.told))
+  pub adds : (is_repeated w old.reported ≡ true → new.counts.entries ≡ old.counts.entries)
+      → (is_repeated w old.reported ≡ false → new.counts.entries ≡ insert_entry cmp old.counts.entries w (once_more (lookup (is_at (cmp w)) old.counts.entries)))
+      → (is_noted w.suspicion ≡ false → new.reported ≡ old.reported)
+      → (is_noted w.suspicion ≡ true → texts_of new.reported ≡ with_text w.text.items (texts_of old.reported))
       → found_in new ≡ with_said (said w) (found_in old)
   adds repeated count others noted =
-      let counts : found_of new.counts.entries ≡ counts_with (is_said_again (said w) (texts_of old.told)) (said w) (found_of old.counts.entries) =
-      counts-by (is_repeated w old.told) again-is repeated count ∙ ap (λ b. counts_with b (said w) (found_of old.counts.entries)) again-is in
-      let told = told-by (is_noted w.suspicion) others noted in
-      λ i. record { counts = counts i; told = told i }
+      let counts : found_of new.counts.entries ≡ counts_with (is_said_again (said w) (texts_of old.reported)) (said w) (found_of old.counts.entries) =
+      counts-by (is_repeated w old.reported) again-is repeated count ∙ ap (λ b. counts_with b (said w) (found_of old.counts.entries)) again-is in
+      let reported = reported-by (is_noted w.suspicion) others noted in
+      λ i. record { counts = counts i; reported = reported i }
 
 -- what warnings say, that of the last first
 last-said : {A : Type 0} (warnings : List (Warning A)) (last : Warning A) → reverse (map said (warnings ++ last ∷ [])) ≡ said last ∷ reverse (map said warnings)
@@ -81,5 +81,5 @@ last-said warnings last = ap reverse (map-append said warnings (last ∷ [])) �
 pub taken : {A : Type 0} (warnings left : List (Warning A)) (last : Warning A) (old new whole : FoundSoFar) → warnings ≡ left ++ last ∷ [] → new ≡ with_said (said last) old → with_all (reverse (map said warnings)) old ≡ whole → with_all (reverse (map said left)) new ≡ whole
 taken warnings left last old new whole last_is found all =
     ap (with_all (reverse (map said left))) found
-    ∙ ap (λ told. with_all told old) (sym (last-said left last) ∙ ap (λ all. reverse (map said all)) (sym last_is))
+    ∙ ap (λ reported. with_all reported old) (sym (last-said left last) ∙ ap (λ all. reverse (map said all)) (sym last_is))
     ∙ all

@@ -4,7 +4,7 @@ use Rattle.trac_language.specs.declared.fate.Fate.{Fate}
 use Rattle.trac_language.specs.declared.report.Report.{Report}
 use Rattle.trac_language.specs.Text.{Text}
 use Rattle.trac_devices.specs.Devices.{Stream}
-use Rattle.trac_core.specs.Machine.{MachineState, Moment, moment, Answers, GoesOn, made}
+use Rattle.trac_core.specs.Machine.{MachineState, Moment, moment, Answers, GoesOn, fresh_machine}
 use Rattle.trac_core.proofs.Moments.{OnCourse, course-none, course-more}
 use Rattle.trac_core.proofs.Reported.{course_to, report_of, reported, reports-made}
 use Rattle.trac_warnings.specs.Watched.{IsFresh, KeepsRun, said}
@@ -37,14 +37,14 @@ watched-none input start bytes watch fresh =
     }
 
 -- before the first step only the script's spelling was looked at
-pub watched-first : {A : Type 0} (input : Text) (room allowance : ℕ) (bytes : Stream) (m : MachineState) (written : Text) (watch : Watch A) (found : FoundSoFar) → IsFresh watch → m ≡ made room allowance → written ≡ [] → found ≡ found_in_script input → IsWatched input (made room allowance) bytes (moment m bytes written) watch found
+pub watched-first : {A : Type 0} (input : Text) (room allowance : ℕ) (bytes : Stream) (m : MachineState) (written : Text) (watch : Watch A) (found : FoundSoFar) → IsFresh watch → m ≡ fresh_machine room allowance → written ≡ [] → found ≡ found_in_script input → IsWatched input (fresh_machine room allowance) bytes (moment m bytes written) watch found
 watched-first input room allowance bytes m written watch found fresh m_is written_is found_is =
-    let start = made room allowance in
+    let start = fresh_machine room allowance in
     subst (λ m. IsWatched input start bytes (moment m bytes written) watch found) (sym m_is)
     (subst (λ written. IsWatched input start bytes (moment start bytes written) watch found) (sym written_is)
     (subst (IsWatched input start bytes (moment start bytes []) watch) (sym found_is) (watched-none input start bytes watch fresh)))
 
-module _ {A : Type 0} (input : Text) (start : MachineState) (bytes : Stream) (old new : Moment) (watch told kept : Watch A) (found more : FoundSoFar) (room_is : old.machine.room ≡ start.room) (so : IsWatched input start bytes old watch found) (watches : Watches input old.machine new.machine watch told) (keeps : KeepsRun told kept) (finds : more ≡ with_all (reverse (map said told.warnings.items)) found) where
+module _ {A : Type 0} (input : Text) (start : MachineState) (bytes : Stream) (old new : Moment) (watch judged kept : Watch A) (found more : FoundSoFar) (room_is : old.machine.room ≡ start.room) (so : IsWatched input start bytes old watch found) (watches : Watches input old.machine new.machine watch judged) (keeps : KeepsRun judged kept) (finds : more ≡ with_all (reverse (map said judged.warnings.items)) found) where
   -- one step more was watched, and the run goes on
   pub watched-more : (taken : Text) → old.source.bytes ≡ taken ++ new.source.bytes → GoesOn old new → IsWatched input start bytes new kept more
   watched-more taken took goes_on =
@@ -52,14 +52,14 @@ module _ {A : Type 0} (input : Text) (start : MachineState) (bytes : Stream) (ol
         first = so.first;
         fresh = so.fresh;
         count = suc so.count;
-        goes = (so_far old watch found, (so.goes, record { goes = goes_on; finds = record { told = told; watches = watches; keeps = keeps; finds = finds } }));
+        goes = (so_far old watch found, (so.goes, record { goes = goes_on; finds = record { judged = judged; watches = watches; keeps = keeps; finds = finds } }));
         course = course-more start bytes.bytes [] taken old new room_is took so.course goes_on;
       }
 
 -- the step with which the run is over
-pub watched-over : {A : Type 0} (input : Text) (room allowance : ℕ) (bytes : Stream) (old new : Moment) (watch told kept : Watch A) (found more whole : FoundSoFar) (fate : Fate) (report : Report) → old.machine.room ≡ room → old.machine.allowance ≡ allowance → IsWatched input (made room allowance) bytes old watch found → Watches input old.machine new.machine watch told → KeepsRun told kept → more ≡ with_all (reverse (map said told.warnings.items)) found → whole ≡ with_names input more → Answers old (Some fate) new → report ≡ report_of fate new.machine → WatchesRun A input room allowance bytes new.source (names_of kept.names.items) whole.counts report
-watched-over {A} input room allowance bytes old new watch told kept found more whole fate report room_is allowance_is so watches keeps finds whole_is answers report_is =
-    let start = made room allowance in
+pub watched-over : {A : Type 0} (input : Text) (room allowance : ℕ) (bytes : Stream) (old new : Moment) (watch judged kept : Watch A) (found more whole : FoundSoFar) (fate : Fate) (report : Report) → old.machine.room ≡ room → old.machine.allowance ≡ allowance → IsWatched input (fresh_machine room allowance) bytes old watch found → Watches input old.machine new.machine watch judged → KeepsRun judged kept → more ≡ with_all (reverse (map said judged.warnings.items)) found → whole ≡ with_names input more → Answers old (Some fate) new → report ≡ report_of fate new.machine → WatchesRun A input room allowance bytes new.source (names_of kept.names.items) whole.counts report
+watched-over {A} input room allowance bytes old new watch judged kept found more whole fate report room_is allowance_is so watches keeps finds whole_is answers report_is =
+    let start = fresh_machine room allowance in
     subst (WatchesRun A input room allowance bytes new.source (names_of kept.names.items) whole.counts) (sym report_is) (record {
       first = so.first;
       fresh = so.fresh;
@@ -67,7 +67,7 @@ watched-over {A} input room allowance bytes old new watch told kept found more w
       before = so_far old watch found;
       after = so_far new kept more;
       goes = so.goes;
-      ends = record { answers = answers; finds = record { told = told; watches = watches; keeps = keeps; finds = finds } };
+      ends = record { answers = answers; finds = record { judged = judged; watches = watches; keeps = keeps; finds = finds } };
       left = refl;
       steps = refl;
       peak = refl;

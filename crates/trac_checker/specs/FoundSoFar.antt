@@ -26,15 +26,15 @@ said_cmp = then_cmp (on (λ s. s.origin) (origin.ghosts).cmp) (then_cmp (on (λ 
 -- one
 pub record FoundSoFar : Type 0 where
   pub counts : Found
-  pub told : List Text
+  pub reported : List Text
 
 -- nothing was found yet
 abbrev pub nothing_found : FoundSoFar
-nothing_found = record { counts = []; told = [] }
+nothing_found = record { counts = []; reported = [] }
 
 -- whether `s` is of those of which each form gets one, and its form got one before
 abbrev pub is_said_again : Said → List Text → Bool
-is_said_again s told = is_of_form s.suspicion && list_any (is_at (slice_cmp nat_cmp s.text)) told
+is_said_again s reported = is_of_form s.suspicion && list_any (is_at (slice_cmp nat_cmp s.text)) reported
 
 -- the counts with `s` once more, unless its form got one before
 abbrev pub counts_with : (is_again : Bool) → Said → Found → Found
@@ -42,15 +42,15 @@ counts_with true s counts = counts
 counts_with false s counts = insert_entry said_cmp counts s (once_more (lookup (is_at (said_cmp s)) counts))
 
 -- the names of the forms that got such a warning, and those that no function has, with `name` if it is noted
-abbrev pub told_with : (is_noted : Bool) → Text → List Text → List Text
-told_with true name told = with_text name told
-told_with false name told = told
+abbrev pub reported_with : (is_noted : Bool) → Text → List Text → List Text
+reported_with true name reported = with_text name reported
+reported_with false name reported = reported
 
 -- what was found, with what a warning says
 abbrev pub with_said : Said → FoundSoFar → FoundSoFar
 with_said s old = record {
-  counts = counts_with (is_said_again s old.told) s old.counts;
-  told = told_with (is_noted s.suspicion) s.text old.told;
+  counts = counts_with (is_said_again s old.reported) s old.counts;
+  reported = reported_with (is_noted s.suspicion) s.text old.reported;
 }
 
 -- what was found, with what each of several warnings says, one after another
@@ -69,4 +69,4 @@ with_names script old = with_all (misspelled_warnings script) old
 
 -- what was found, as `findings` holds it
 abbrev pub found_in : {A : Type 0} → Findings A → FoundSoFar
-found_in findings = record { counts = found_of findings.counts.entries; told = texts_of findings.told }
+found_in findings = record { counts = found_of findings.counts.entries; reported = texts_of findings.reported }

@@ -14,7 +14,7 @@ use Rattle.trac_language.specs.Text.{Text}
 use Rattle.trac_language.specs.declared.report.Report.{Report}
 use Rattle.trac_views.specs.Lines.{end_text}
 use Rattle.trac_views.specs.Shown.{shown_text}
-use Rattle.trac_views.specs.Told.{is_fault, place_text}
+use Rattle.trac_views.specs.CallLines.{is_fault, place_text}
 
 -- a column, from 0, of the value of a form of this name
 abbrev pub column_of_value : ℕ → List ℕ → List ℕ

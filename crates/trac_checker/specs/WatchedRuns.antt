@@ -4,30 +4,30 @@ use Rattle.trac_language.specs.Text.{Text}
 use Rattle.trac_language.specs.declared.fate.Fate.{Fate}
 use Rattle.trac_language.specs.declared.report.Report.{Report}
 use Rattle.trac_devices.specs.Devices.{Stream}
-use Rattle.trac_core.specs.Machine.{MachineState, Moment, moment, GoesOn, Answers, Reports, course, made}
+use Rattle.trac_core.specs.Machine.{MachineState, Moment, moment, GoesOn, Answers, Reports, course, fresh_machine}
 use Rattle.trac_events.specs.Calls.{IsSeen}
 use Rattle.trac_events.specs.declared.before.Before.{Before}
 use Rattle.trac_warnings.specs.Looked.{Looks}
-use Rattle.trac_warnings.specs.Told.{TellsAll}
+use Rattle.trac_warnings.specs.StepWarnings.{JudgesStep}
 use Rattle.trac_warnings.specs.Watched.{IsFresh, Kept, KeepsPlaces, KeepsRun, Moves, Reads, Stays, said}
 use Rattle.trac_warnings.specs.declared.watch.Watch.{Watch}
 use Rattle.trac_checker.specs.FoundSoFar.{FoundSoFar, found_in_script, with_all, with_names}
 use Rattle.trac_checker.specs.Warned.{Found, names_of}
 
--- a watch looked at a machine before a step, and told of the machine after it; `A` is where its lists are
+-- a watch looked at a machine before a step, and judged of the machine after it; `A` is where its lists are
 pub record Watches
-    {A : Type 0} (input : Text) (old new : MachineState) (watch told : Watch A)
+    {A : Type 0} (input : Text) (old new : MachineState) (watch judged : Watch A)
     : Type 0 where
   pub before : Before
   pub looked : Watch A
   pub seen : IsSeen old false before
   pub looks : Looks watch old input looked.warnings.items
   pub places : KeepsPlaces watch looked
-  pub undone : new.steps ≡ before.done → Stays looked told
-  pub kept : new.steps ≢ before.done → Kept looked.warnings.items told.warnings.items
-  pub moves : new.steps ≢ before.done → Moves before new looked told
-  pub reads : new.steps ≢ before.done → Reads before new input looked.read told.read
-  pub tells : new.steps ≢ before.done → TellsAll before new input looked told
+  pub undone : new.steps ≡ before.done → Stays looked judged
+  pub kept : new.steps ≢ before.done → Kept looked.warnings.items judged.warnings.items
+  pub moves : new.steps ≢ before.done → Moves before new looked judged
+  pub reads : new.steps ≢ before.done → Reads before new input looked.read judged.read
+  pub tells : new.steps ≢ before.done → JudgesStep before new input looked judged
 
 -- how far a run that is watched has come: its machine, with all that it printed; what the watch keeps; and what
 -- was found
@@ -38,10 +38,10 @@ pub record WatchedSoFar (A : Type 0) : Type 0 where
 
 -- a step was watched, and what its warnings say, that of the last first, was added to what was found
 pub record Finds {A : Type 0} (input : Text) (old new : WatchedSoFar A) : Type 0 where
-  pub told : Watch A
-  pub watches : Watches input old.at.machine new.at.machine old.watch told
-  pub keeps : KeepsRun told new.watch
-  pub finds : new.found ≡ with_all (reverse (map said told.warnings.items)) old.found
+  pub judged : Watch A
+  pub watches : Watches input old.at.machine new.at.machine old.watch judged
+  pub keeps : KeepsRun judged new.watch
+  pub finds : new.found ≡ with_all (reverse (map said judged.warnings.items)) old.found
 
 -- one step from `old` to `new` was done and watched
 pub record WatchesStep {A : Type 0} (input : Text) (old new : WatchedSoFar A) : Type 0 where
@@ -64,7 +64,7 @@ abbrev pub not_begun : {A : Type 0} → Text → Moment → Watch A → WatchedS
 not_begun input start watch = record { at = start; watch = watch; found = found_in_script input }
 
 -- the definition's run in `room` cells and with at most `allowance` steps, over a source with the bytes `old`, was
--- watched: `input` is the script whose places are told, `names` are those of the forms that were defined, and `found`
+-- watched: `input` is the script whose places are judged, `names` are those of the forms that were defined, and `found`
 -- is what was found, in the run, in how the script is written, and in the names of its calls
 pub record WatchesRun
     (A : Type 0) (input : Text) (room allowance : ℕ) (old new : Stream) (names : List Text) (found : Found)
@@ -75,11 +75,11 @@ pub record WatchesRun
   pub count : ℕ
   pub before : WatchedSoFar A
   pub after : WatchedSoFar A
-  pub goes : WatchesSteps input count (not_begun input (moment (made room allowance) old []) first) before
+  pub goes : WatchesSteps input count (not_begun input (moment (fresh_machine room allowance) old []) first) before
   pub ends : WatchesLast input report.fate before after
   pub left : after.at.source ≡ new
   pub steps : report.steps ≡ after.at.machine.steps
   pub peak : report.peak ≡ after.at.machine.peak
-  pub reports : Reports report.fate (course (made room allowance) old [] new after.at.written) report
+  pub reports : Reports report.fate (course (fresh_machine room allowance) old [] new after.at.written) report
   pub names_are : names ≡ names_of after.watch.names.items
   pub found_is : found ≡ (with_names input after.found).counts

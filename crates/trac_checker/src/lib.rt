@@ -3,10 +3,10 @@
 #![tactic(auto)]
 
 mod lines;
+mod null_sink;
 mod run;
-mod unkept;
 mod written;
 
 pub use lines::push_warning;
+pub use null_sink::NullSink;
 pub use run::{WatchedRun, watched};
-pub use unkept::Unkept;

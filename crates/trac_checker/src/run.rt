@@ -3,7 +3,7 @@ ghost use Rattle.std.specs.Prelude.{◌≡◌, ◌++◌, ◌+◌, ◌-◌, ◌^�
 ghost use Rattle.std.specs.List.{flat_map};
 ghost use Rattle.trac_core.specs.Machine.{reported_input_failures};
 ghost use Rattle.trac_events.specs.Places.{behind_text, first_place};
-ghost use Rattle.trac_views.specs.Told.{is_fault};
+ghost use Rattle.trac_views.specs.CallLines.{is_fault};
 ghost use Rattle.trac_checker.specs.Warned.{fault_end, form_named, found_of, names_of, summary_text};
 ghost use Rattle.trac_checker.specs.Warned.{warning_line, warning_text};
 ghost use Rattle.trac_checker.specs.FoundSoFar.{found_in, found_in_script, with_all, with_names};
@@ -11,7 +11,7 @@ ghost use Rattle.trac_checker.specs.WatchedRuns.{WatchesRun};
 ghost use Rattle.trac_warnings.specs.Watched.{KeepsRun, said};
 
 use crate::lines::push_warning;
-use crate::unkept::Unkept;
+use crate::null_sink::NullSink;
 use std::alloc::{AllocError, Allocator};
 use trac_core::{Cell, Machine, Report, Source};
 use trac_events::Place;
@@ -48,13 +48,13 @@ pub fn watched<A: Allocator + Copy, I: Source>(
         (found_of watched.findings.counts.entries) watched.report) }
 {
     let mut machine = Machine::over(block, steps);
-    let mut unkept = Unkept::new();
+    let mut null_sink = NullSink::new();
     let mut watch = Watch::new(alloc);
     let mut findings = of_script(alloc, input)?;
     loop {
         let before = watch.look(&machine, input)?;
-        let fate = machine.step(source, &mut unkept);
-        watch.tell(&before, &machine, input)?;
+        let fate = machine.step(source, &mut null_sink);
+        watch.judge_step(&before, &machine, input)?;
         keep_warnings(&mut watch, &mut findings)?;
         if let Some(fate) = fate {
             add_names(&mut findings, alloc, input)?;

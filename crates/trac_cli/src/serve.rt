@@ -2,7 +2,7 @@
 ghost use Rattle.std.specs.Prelude.{◌≡◌, ◌≢◌, ◌+◌, ◌-◌, ◌^◌, ◌<◌, ◌≤◌, OnErr, IfOk};
 ghost use Rattle.trac_language.specs.declared.fate.Fate.TheVariants.{OutputFailed};
 ghost use Rattle.trac_devices.specs.Devices.{Sent};
-ghost use Rattle.trac_core.specs.Machine.{Reports, course, made, reported_input_failures};
+ghost use Rattle.trac_core.specs.Machine.{Reports, course, fresh_machine, reported_input_failures};
 ghost use Rattle.trac_core.specs.Machine.{reported_output_failures};
 
 use std::alloc::Global;
@@ -28,7 +28,7 @@ pub fn serve<I: Source, O: Sink>(
     requires source_counts { I.failure_count source.old < 2 ^ 64 - 1 }
     requires sink_counts { O.failure_count sink.old < 2 ^ 64 - 1 }
     ensures reports { I.tells source.old → O.tells sink.old → IfOk result (λ report.
-        let machine = made settings.now.cells settings.now.steps in
+        let machine = fresh_machine settings.now.cells settings.now.steps in
         let course = course machine (I.stream source.old) (O.written sink.old)
         (I.stream source.new) (O.written sink.new) in
         Reports report.fate course report) }

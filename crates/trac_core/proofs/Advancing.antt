@@ -104,22 +104,22 @@ module _ {I O : Type 0} (performed : Standing I O → Option Fate → Standing I
       drive-next after need top all source source_after sink sink_after stays (inr (record { room = refl; allowance = refl; stops = refl }, done m refl refl allowed)) is all_is goes
 
   -- no step more is done
-  pub drive-stays : (declines : Memory → Type 0) (most all plain after : ℕ) (next : Option Function) (to : Advance) (source source_after : I) (sink sink_after : O) → new ≡ w → after ≡ meta → source_after ≡ source → sink_after ≡ sink → to ≡ record { progress = record { done = all; next = next }; plain = plain; steps = at.steps + all; peak = peak; fate = None } → all ≡ k → (k ≡ most) ⊎ ((at.steps + k ≡ at.allowance) ⊎ declines (memory_of meta w)) → GoesBy performed k start (standing (turning stops w meta (counters_after at k peak)) source sink) → Driven performed declines most to.progress.done start (standing (advanced_to stops new after at to) source_after sink_after)
-  drive-stays declines most all plain after next to source source_after sink sink_after same meta_is source_is sink_is is all_is why goes =
+  pub drive-stays : (declines : Memory → Type 0) (most all no_comma_from after : ℕ) (next : Option Function) (to : Advance) (source source_after : I) (sink sink_after : O) → new ≡ w → after ≡ meta → source_after ≡ source → sink_after ≡ sink → to ≡ record { progress = record { done = all; next = next }; no_comma_from = no_comma_from; steps = at.steps + all; peak = peak; fate = None } → all ≡ k → (k ≡ most) ⊎ ((at.steps + k ≡ at.allowance) ⊎ declines (memory_of meta w)) → GoesBy performed k start (standing (turning stops w meta (counters_after at k peak)) source sink) → Driven performed declines most to.progress.done start (standing (advanced_to stops new after at to) source_after sink_after)
+  drive-stays declines most all no_comma_from after next to source source_after sink sink_after same meta_is source_is sink_is is all_is why goes =
       let m = turning stops w meta (counters_after at k peak) in
-      let told : Advance = record { progress = record { done = k; next = next }; plain = plain; steps = at.steps + k; peak = peak; fate = None } in
-      let to_is : to ≡ told = is ∙ ap (λ n. record { progress = record { done = n; next = next }; plain = plain; steps = at.steps + n; peak = peak; fate = None }) all_is in
+      let told : Advance = record { progress = record { done = k; next = next }; no_comma_from = no_comma_from; steps = at.steps + k; peak = peak; fate = None } in
+      let to_is : to ≡ told = is ∙ ap (λ n. record { progress = record { done = n; next = next }; no_comma_from = no_comma_from; steps = at.steps + n; peak = peak; fate = None }) all_is in
       let whole : Driven performed declines most told.progress.done start (standing (advanced_to stops w meta at told) source sink) = (standing m source sink, (goes, (refl, why))) in
       let here : standing (advanced_to stops w meta at told) source sink ≡ standing (advanced_to stops new after at told) source_after sink_after = λ i. standing (advanced_to stops (sym same i) (sym meta_is i) at told) (sym source_is i) (sym sink_is i) in
       subst (λ (to : Advance). Driven performed declines most to.progress.done start (standing (advanced_to stops new after at to) source_after sink_after)) (sym to_is)
       (subst (Driven performed declines most told.progress.done start) here whole)
 
   -- a step ends the run
-  pub drive-ends : (declines : Memory → Type 0) (most after need plain : ℕ) (fate : Fate) (to : Advance) (source source_after : I) (sink sink_after : O) → new.room ≡ w.room → at.steps + k < at.allowance → k < most → PerformedFor performed (Some fate) need w meta source sink new after source_after sink_after → to ≡ record { progress = record { done = k; next = None }; plain = plain; steps = (counted (turning stops w meta (counters_after at k peak)) (memory_of after new) need (Some fate)).steps; peak = (counted (turning stops w meta (counters_after at k peak)) (memory_of after new) need (Some fate)).peak; fate = Some fate } → GoesBy performed k start (standing (turning stops w meta (counters_after at k peak)) source sink) → Driven performed declines most to.progress.done start (standing (advanced_to stops new after at to) source_after sink_after)
-  drive-ends declines most after need plain fate to source source_after sink sink_after stays allowed few done is goes =
+  pub drive-ends : (declines : Memory → Type 0) (most after need no_comma_from : ℕ) (fate : Fate) (to : Advance) (source source_after : I) (sink sink_after : O) → new.room ≡ w.room → at.steps + k < at.allowance → k < most → PerformedFor performed (Some fate) need w meta source sink new after source_after sink_after → to ≡ record { progress = record { done = k; next = None }; no_comma_from = no_comma_from; steps = (counted (turning stops w meta (counters_after at k peak)) (memory_of after new) need (Some fate)).steps; peak = (counted (turning stops w meta (counters_after at k peak)) (memory_of after new) need (Some fate)).peak; fate = Some fate } → GoesBy performed k start (standing (turning stops w meta (counters_after at k peak)) source sink) → Driven performed declines most to.progress.done start (standing (advanced_to stops new after at to) source_after sink_after)
+  drive-ends declines most after need no_comma_from fate to source source_after sink sink_after stays allowed few done is goes =
       let m = turning stops w meta (counters_after at k peak) in
       let last = counted m (memory_of after new) need (Some fate) in
-      let told : Advance = record { progress = record { done = k; next = None }; plain = plain; steps = last.steps; peak = last.peak; fate = Some fate } in
+      let told : Advance = record { progress = record { done = k; next = None }; no_comma_from = no_comma_from; steps = last.steps; peak = last.peak; fate = Some fate } in
       let same : last ≡ advanced_to stops new after at told = counted-parts m (memory_of after new) need fate ∙ (λ i. record (advanced_to stops new after at told) { room = sym stays i }) in
       let ends = subst (λ last. performed (standing m source sink) (Some fate) (standing last source_after sink_after)) same (done m refl refl allowed) in
       let whole : Driven performed declines most told.progress.done start (standing (advanced_to stops new after at told) source_after sink_after) = (standing m source sink, (goes, (few, ends))) in

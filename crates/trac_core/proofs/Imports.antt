@@ -10,9 +10,9 @@ pub use Rattle.std.proofs.lemmas.List.Sums.{sum_by-cons}
 pub use Rattle.std.proofs.lemmas.Option.{slice_get-get_or, unwrap_or-slice_get}
 pub use Rattle.std.specs.List.{before_first, list_any, position_or_len, range_with_len}
 pub use Rattle.std.specs.Prelude.{Err, MatchResult, Ok, OnErr, Result, bytes_eq, codes, decimal, if◌then◌else◌, is_some, nat_le, nat_lt, unwrap_or, ℤ, ◌==◌}
-pub use Rattle.trac_core.specs.Attempts.{AnswersCall, ClosesCall, EndsQuietly, IsCall, IsValueFrom, LeavesSink, LeavesSource, NoneFailed, Scanned, Scans, Stands, TakesFrom, Tried, TriedCall, delivered, fate_after, function_at, scene, settled}
+pub use Rattle.trac_core.specs.StepOutcomes.{AnswersCall, ClosesCall, EndsQuietly, IsCall, IsValueFrom, LeavesSink, LeavesSource, NoneFailed, Scanned, Scans, Stands, TakesFrom, Tried, TriedCall, delivered, fate_after, function_at, scene, settled}
 pub use Rattle.trac_core.specs.Display.{display, shown}
-pub use Rattle.trac_core.specs.Machine.{Answers, BrokeOff, Course, EndsRun, GoesOn, IsReportOf, KeepsFormsAndMeta, KeepsSettings, LeavesMemory, MachineState, Moment, RanThrough, RanToFailure, Reports, ReportsOf, Resumes, StopsAtAllowance, StopsAtInput, StopsAtOutput, StopsAtRoom, after_steps, counted, ending, failing, failing_state_of, first_runs, input_failures, later_runs, made, memory_after, moment, output_failures, state_of, state_with}
+pub use Rattle.trac_core.specs.Machine.{Answers, BrokeOff, Course, EndsRun, GoesOn, IsReportOf, KeepsFormsAndMeta, KeepsSettings, LeavesMemory, MachineState, Moment, RanThrough, RanToFailure, Reports, ReportsOf, Resumes, StopsAtAllowance, StopsAtInput, StopsAtOutput, StopsAtRoom, after_steps, counted, ending, failing, failing_state_of, first_runs, input_failures, later_runs, fresh_machine, memory_after, moment, output_failures, state_of, state_with}
 pub use Rattle.trac_core.specs.Matching.{IsAt, side_in, side_of}
 pub use Rattle.trac_core.specs.ReadTexts.{Reads}
 pub use Rattle.trac_core.specs.OpenCalls.{asks_host, call_performed_by, calls_unknown, is_unknown, performed_call, stops_at}
@@ -21,11 +21,11 @@ pub use Rattle.trac_core.specs.NamedCalls.{IsAlone, IsNamed}
 pub use Rattle.trac_core.specs.Advancing.{Advanced, EndsAlone, GoesAlone, NeedsMore, StepsAlone, StopsAlone, advanced_to}
 pub use Rattle.trac_core.specs.Driving.{Declined, Driven, GoesBy, PerformedAlone, PerformedFor, PerformedWith, Standing, StepsBy, StopsBy, standing}
 pub use Rattle.trac_core.specs.Session.{printed_in}
-pub use Rattle.trac_core.specs.StepsInRow.{Advances, AsksFor, IsLayout, IsOrdinary, IsPlainFrom, Passes, PassesTimes, SomeSteps, is_special, kind_in, kind_of, passed, peak_after, turning}
+pub use Rattle.trac_core.specs.StepsInRow.{Advances, AsksFor, IsLayout, IsOrdinary, HasNoCommaFrom, Passes, PassesTimes, SomeSteps, is_special, kind_in, kind_of, passed, peak_after, turning}
 pub use Rattle.trac_language.specs.declared.report.Report.{Report}
 pub use Rattle.trac_devices.specs.Devices.{Breaks, Prints, Sent, Stream, Streams, has_byte}
 pub use Rattle.trac_forms.specs.Contents.{Contents, IsSound, form_at, part_text, used}
-pub use Rattle.trac_functions.specs.Calls.{IsDefined, IsHeld, IsPlaced, IsValue, Makes, is_plain, texts, texts_from, world}
+pub use Rattle.trac_functions.specs.Calls.{IsDefined, IsHeld, IsPlaced, IsValue, Makes, is_self_contained, texts, texts_from, world}
 pub use Rattle.trac_functions.specs.Flat.{Neutral, arguments_at, is_active_mode, memory_of, memory_with, mode_at, mode_of, neutral_of, no_neutral, texts_of, with_cell, with_cells}
 pub use Rattle.trac_functions.specs.declared.arguments.CallResult.TheVariants.{Null, Full, Over, InFront, Unscanned, AtEnd}
 pub use Rattle.trac_language.specs.Form.{Form, after_pointer, before_pointer}

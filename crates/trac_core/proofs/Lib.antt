@@ -16,7 +16,7 @@ pub mod RuleRows
 pub mod ReadTexts
 pub mod Performed
 pub mod Printed
-pub mod PlainEnds
+pub mod NoCommaEnds
 pub mod OrdinaryBlocks
 pub mod ArgumentRuns
 pub mod OpenCalls

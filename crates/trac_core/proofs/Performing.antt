@@ -1,5 +1,5 @@
 -- A call that is performed, over the contents of a workspace.
-use Rattle.trac_core.proofs.Imports.{take-take, if◌then◌else◌, failing_state_of, StopsAtInput, StopsAtOutput, ◌≡◌, ◌≢◌, ℕ, ◌+◌, ◌-◌, ◌<◌, ◌≤◌, max, Bool, true, false, not, ◌&&◌, ◌||◌, List, [], ◌∷◌, ◌++◌, length, take, drop, All, Option, Some, None, refl, sym, ap, ◌∙◌, subst, arith, append-nil, length-append, ◌==◌, slice_get, unwrap_or, nat_le, unwrap_or-slice_get, list_any, length-map, length-drop, get_or_append_left, drop-append_seam, take-append_seam, take-length, Mode, Active, Function, ReadString, ReadCharacter, ChangeMeta, PrintString, PrintForm, Halt, Fate, Workspace, Steps, InputFailed, OutputFailed, Text, Form, function_named, Input, State, argument, size, Answer, Gives, Ends, meaning_of, meaning, built, deliver, perform, step, need, is_read_string, reads_last, reads_to_end, Cell, Byte, flat_text, text_of_cells, character_of, IsByte, IsLastCall, Contents, used, IsSound, Stream, Full, AtEnd, InFront, Unscanned, Null, Over, texts_of, no_neutral, neutral_of, memory_of, mode_of, mode_at, is_active_mode, arguments_at, texts_from, world, IsValue, IsHeld, IsPlaced, IsDefined, Makes, is_plain, performs, touches_device, calls_device, needs_device, silent, MachineState, moment, ending, failing, state_with, state_of, failing_state_of, EndsRun, input_failures, output_failures, scene, TriedCall, ClosesCall, function_at, delivered, settled, AnswersCall, IsValueFrom, Stands, fate_after, or_right, true≢false}
+use Rattle.trac_core.proofs.Imports.{take-take, if◌then◌else◌, failing_state_of, StopsAtInput, StopsAtOutput, ◌≡◌, ◌≢◌, ℕ, ◌+◌, ◌-◌, ◌<◌, ◌≤◌, max, Bool, true, false, not, ◌&&◌, ◌||◌, List, [], ◌∷◌, ◌++◌, length, take, drop, All, Option, Some, None, refl, sym, ap, ◌∙◌, subst, arith, append-nil, length-append, ◌==◌, slice_get, unwrap_or, nat_le, unwrap_or-slice_get, list_any, length-map, length-drop, get_or_append_left, drop-append_seam, take-append_seam, take-length, Mode, Active, Function, ReadString, ReadCharacter, ChangeMeta, PrintString, PrintForm, Halt, Fate, Workspace, Steps, InputFailed, OutputFailed, Text, Form, function_named, Input, State, argument, size, Answer, Gives, Ends, meaning_of, meaning, built, deliver, perform, step, need, is_read_string, reads_last, reads_to_end, Cell, Byte, flat_text, text_of_cells, character_of, IsByte, IsLastCall, Contents, used, IsSound, Stream, Full, AtEnd, InFront, Unscanned, Null, Over, texts_of, no_neutral, neutral_of, memory_of, mode_of, mode_at, is_active_mode, arguments_at, texts_from, world, IsValue, IsHeld, IsPlaced, IsDefined, Makes, is_self_contained, performs, touches_device, calls_device, needs_device, silent, MachineState, moment, ending, failing, state_with, state_of, failing_state_of, EndsRun, input_failures, output_failures, scene, TriedCall, ClosesCall, function_at, delivered, settled, AnswersCall, IsValueFrom, Stands, fate_after, or_right, true≢false}
 use Rattle.trac_language.specs.declared.mode.Mode.TheVariants.{Neutral as NeutralMode}
 use Rattle.trac_laws.proofs.Rules.{rule_end}
 use Rattle.trac_space.proofs.Texts.{text_of_cells-append}
@@ -182,19 +182,19 @@ whole-arguments neutral place rest e = ap (λ l. argument (arguments_at neutral 
     go (t ∷ ts) some = refl
 
 -- a plain function reads nothing
-plain-reads : (f : Function) → is_plain f ≡ true → is_read_string f ≡ false
-plain-reads ReadString h = absurd cc
-plain-reads _ h = refl
+no_comma_from-reads : (f : Function) → is_self_contained f ≡ true → is_read_string f ≡ false
+no_comma_from-reads ReadString h = absurd cc
+no_comma_from-reads _ h = refl
 
 -- a value that stands behind what was there is delivered
 pub delivered-value : (w mid new : Contents) (place end : ℕ) (value : Text) (forced : Bool) (forms : List Form) → IsLastCall w.neutral place → mid ≡ record w { forms = forms; neutral = w.neutral ++ flat_text value } → end ≡ length w.neutral → new ≡ delivered (mode_at mid.neutral place) forced (text_of_cells (drop end mid.neutral)) place (record mid { neutral = take end mid.neutral }) → new ≡ delivered (mode_at w.neutral place) forced value place (record w { forms = forms })
 delivered-value w mid new place end value forced forms innermost stands end_is new_is =
     rw (new_is, stands, end_is, drop-append_seam w.neutral (flat_text value), text_of-flat value, take-append_seam w.neutral (flat_text value), get_or_append_left w.neutral (flat_text value) (Byte 0) place innermost.mark.0) refl
 
-module _ (w mid : Contents) (place : ℕ) (f : Function) (rest : List Text) (scanned : Bool) (names : function_named (argument (arguments_at w.neutral place) 0) ≡ Some f) (innermost : IsLastCall w.neutral place) (plain : is_plain f ≡ true) (rest_is : rest ≡ drop 1 (arguments_at w.neutral place)) (mode_is : scanned ≡ is_active_mode (mode_at w.neutral place)) where
+module _ (w mid : Contents) (place : ℕ) (f : Function) (rest : List Text) (scanned : Bool) (names : function_named (argument (arguments_at w.neutral place) 0) ≡ Some f) (innermost : IsLastCall w.neutral place) (no_comma_from : is_self_contained f ≡ true) (rest_is : rest ≡ drop 1 (arguments_at w.neutral place)) (mode_is : scanned ≡ is_active_mode (mode_at w.neutral place)) where
   -- a call with a value, by the arguments that follow its name
-  plain-tried : (new : Contents) (needed : ℕ) (value : Text) (forced : Bool) (forms : List Form) (meta : ℕ) (source : Stream) (written : Text) → meaning_of f (argument (arguments_at w.neutral place) 0 ∷ rest) (world w.forms meta (ending source.bytes)) ≡ Gives (record { value = value; forced = forced; world = world forms meta (ending source.bytes); printed = [] }) → new ≡ delivered (mode_at w.neutral place) forced value place (record w { forms = forms }) → needed ≡ used w + built (Some f) (argument (arguments_at w.neutral place) 0 ∷ rest) (world w.forms meta (ending source.bytes)) → needed ≤ w.room → TriedCall place (scene w meta source written) None needed (scene new meta source written)
-  plain-tried new needed value forced forms meta source written means stands needs fits =
+  no_comma_from-tried : (new : Contents) (needed : ℕ) (value : Text) (forced : Bool) (forms : List Form) (meta : ℕ) (source : Stream) (written : Text) → meaning_of f (argument (arguments_at w.neutral place) 0 ∷ rest) (world w.forms meta (ending source.bytes)) ≡ Gives (record { value = value; forced = forced; world = world forms meta (ending source.bytes); printed = [] }) → new ≡ delivered (mode_at w.neutral place) forced value place (record w { forms = forms }) → needed ≡ used w + built (Some f) (argument (arguments_at w.neutral place) 0 ∷ rest) (world w.forms meta (ending source.bytes)) → needed ≤ w.room → TriedCall place (scene w meta source written) None needed (scene new meta source written)
+  no_comma_from-tried new needed value forced forms meta source written means stands needs fits =
       let all = whole-arguments w.neutral place rest rest_is in
       tried-quiet w new place (Some f) meta meta source source written needed value forced forms names
       (record {
@@ -203,21 +203,21 @@ module _ (w mid : Contents) (place : ℕ) (f : Function) (rest : List Text) (sca
         needs = needs ∙ ap (λ args. used w + built (Some f) args (world w.forms meta (ending source.bytes))) all;
         fits = fits;
         stays_ended = λ e. e;
-        read_all = λ reads. absurd (let none = ap (λ b. b && not (list_any (λ c. c == meta) source.bytes)) (plain-reads f plain) in cc);
+        read_all = λ reads. absurd (let none = ap (λ b. b && not (list_any (λ c. c == meta) source.bytes)) (no_comma_from-reads f no_comma_from) in cc);
       })
 
   -- a call that builds a value which stands at the end of neutral
   pub tried-value : (new : Contents) (end needed : ℕ) (value : Text) (forced : Bool) → IsValue f (argument (arguments_at w.neutral place) 0 ∷ rest) w mid forced value → end ≡ length w.neutral → new ≡ delivered (mode_at mid.neutral place) forced (text_of_cells (drop end mid.neutral)) place (record mid { neutral = take end mid.neutral }) → needed ≡ used w + (length mid.neutral - end) → (meta : ℕ) (source : Stream) (written : Text) → TriedCall place (scene w meta source written) None needed (scene new meta source written)
   tried-value new end needed value forced is end_is new_is needs meta source written =
       let long : length mid.neutral - end ≡ length value = rw (is.stands, end_is, length-append w.neutral (flat_text value), length-map value Byte) (omega arith) in
-      plain-tried new needed value forced mid.forms meta source written (is.valued.means meta (ending source.bytes)) (delivered-value w mid new place end value forced mid.forms innermost is.stands end_is new_is)
+      no_comma_from-tried new needed value forced mid.forms meta source written (is.valued.means meta (ending source.bytes)) (delivered-value w mid new place end value forced mid.forms innermost is.stands end_is new_is)
       (needs ∙ ap (λ n. used w + n) (long ∙ sym (is.valued.builds meta (ending source.bytes)))) (omega arith)
 
   -- a call whose value stands before the active string already
   pub tried-placed : (value : Text) (forced : Bool) (size : ℕ) → IsPlaced f (argument (arguments_at w.neutral place) 0 ∷ rest) scanned w mid forced value size → (meta : ℕ) (source : Stream) (written : Text) → TriedCall place (scene w meta source written) None (used w + size) (scene (closed mid place) meta source written)
   tried-placed value forced size is meta source written =
       let goes : (forced || is_active_mode (mode_at w.neutral place)) ≡ true = ap (λ b. forced || b) (sym mode_is) ∙ is.goes in
-      plain-tried (closed mid place) (used w + size) value forced mid.forms meta source written (is.valued.means meta (ending source.bytes))
+      no_comma_from-tried (closed mid place) (used w + size) value forced mid.forms meta source written (is.valued.means meta (ending source.bytes))
       (ap (λ (c : Contents). closed c place) is.stands ∙ sym (delivered-active (mode_at w.neutral place) forced value place (record w { forms = mid.forms }) goes))
       (ap (λ n. used w + n) (sym is.long ∙ sym (is.valued.builds meta (ending source.bytes)))) is.fits
 
@@ -228,7 +228,7 @@ module _ (w mid : Contents) (place : ℕ) (f : Function) (rest : List Text) (sca
       let long : length (flat_text value) ≡ size = length-map value Byte ∙ is.long in
       let front : take size (flat_text value ++ w.active) ≡ flat_text value = ap (λ n. take n (flat_text value ++ w.active)) (sym long) ∙ take-append_seam (flat_text value) w.active in
       let left : drop size (flat_text value ++ w.active) ≡ w.active = ap (λ n. drop n (flat_text value ++ w.active)) (sym long) ∙ drop-append_seam (flat_text value) w.active in
-      plain-tried (settled (Unscanned size) place (length w.neutral) mid) (used w + size) value false mid.forms meta source written (is.valued.means meta (ending source.bytes))
+      no_comma_from-tried (settled (Unscanned size) place (length w.neutral) mid) (used w + size) value false mid.forms meta source written (is.valued.means meta (ending source.bytes))
       (ap (λ (c : Contents). settled (Unscanned size) place (length w.neutral) c) is.stands
       ∙ ap (λ cells. record w { forms = mid.forms; neutral = take place w.neutral ++ cells; active = drop size (flat_text value ++ w.active) }) front
       ∙ ap (λ cells. record w { forms = mid.forms; neutral = take place w.neutral ++ flat_text value; active = cells }) left
@@ -238,7 +238,7 @@ module _ (w mid : Contents) (place : ℕ) (f : Function) (rest : List Text) (sca
   -- a call that builds a form
   pub tried-defined : (new : Contents) (needed cells : ℕ) → IsDefined f (argument (arguments_at w.neutral place) 0 ∷ rest) w mid cells → new ≡ closed mid place → needed ≡ used w + cells → (meta : ℕ) (source : Stream) (written : Text) → TriedCall place (scene w meta source written) None needed (scene new meta source written)
   tried-defined new needed cells is new_is needs meta source written =
-      plain-tried new needed [] false mid.forms meta source written (is.means meta (ending source.bytes))
+      no_comma_from-tried new needed [] false mid.forms meta source written (is.means meta (ending source.bytes))
       (new_is ∙ ap (λ (c : Contents). record c { forms = mid.forms; neutral = take place c.neutral }) is.stands ∙ sym (delivered-null (mode_at w.neutral place) place (record w { forms = mid.forms })))
       (needs ∙ ap (λ n. used w + n) (sym (is.builds meta (ending source.bytes)))) (omega arith)
 
@@ -252,7 +252,7 @@ module _ (w mid : Contents) (place : ℕ) (f : Function) (rest : List Text) (sca
       tried-full w new place (Some f) meta source source written 0 names (omega arith)
 
   -- whatever the function makes of the call
-  pub answers-made : (made : CallResult) → Makes f (argument (arguments_at w.neutral place) 0 ∷ rest) scanned w made mid → (meta : ℕ) (source : Stream) (written : Text) → AnswersCall place (scene w meta source written) made (scene mid meta source written)
+  pub answers-made : (call_result : CallResult) → Makes f (argument (arguments_at w.neutral place) 0 ∷ rest) scanned w call_result mid → (meta : ℕ) (source : Stream) (written : Text) → AnswersCall place (scene w meta source written) call_result (scene mid meta source written)
   answers-made Full is meta source written = tried-too-much mid is meta source written
   answers-made AtEnd is meta source written = tried-value (settled AtEnd place (length w.neutral) mid) (length w.neutral) (used w + (length mid.neutral - length w.neutral)) is.0 false is.1 refl refl refl meta source written
   answers-made (InFront size) is meta source written = tried-placed is.0 is.1.0 size is.1.1 meta source written
@@ -286,7 +286,7 @@ value-stands : (f : Function) (args : List Text) (w mid : Contents) (forced : Bo
 value-stands f args w mid forced value is = text-stands w mid mid.forms value is.stands is.fits
 
 -- what stands there, whatever a function makes of its call
-pub stands-made : (f : Function) (args : List Text) (scanned : Bool) (w mid : Contents) (made : CallResult) → Makes f args scanned w made mid → Stands made (used w) (length w.neutral) mid
+pub stands-made : (f : Function) (args : List Text) (scanned : Bool) (w mid : Contents) (call_result : CallResult) → Makes f args scanned w call_result mid → Stands call_result (used w) (length w.neutral) mid
 stands-made f args scanned w mid Full is = tt
 stands-made f args scanned w mid AtEnd is = value-stands f args w mid false is.0 is.1
 stands-made f args scanned w mid (InFront size) is =
@@ -307,12 +307,12 @@ stands-made f args scanned w mid (Null cells) is =
 stands-made f args scanned w mid (Over fate) is = tt
 
 -- a function without devices ends no run
-pub no-failure-made : (f : Function) (args : List Text) (scanned : Bool) (w mid : Contents) (made : CallResult) → Makes f args scanned w made mid → (input_failures None (fate_after made) ≡ 0) × ((output_failures None (fate_after made) ≡ 0) × (made ≢ Over Steps))
+pub no-failure-made : (f : Function) (args : List Text) (scanned : Bool) (w mid : Contents) (call_result : CallResult) → Makes f args scanned w call_result mid → (input_failures None (fate_after call_result) ≡ 0) × ((output_failures None (fate_after call_result) ≡ 0) × (call_result ≢ Over Steps))
 no-failure-made f args scanned w mid (Over fate) is = absurd is
 no-failure-made f args scanned w mid _ is = (refl, (refl, λ e. absurd cc))
 
--- what ends the run, or isn't done, was made of nothing but too few cells
-pub only-full : (f : Function) (args : List Text) (scanned : Bool) (w mid : Contents) (made : CallResult) → Makes f args scanned w made mid → fate_after made ≢ None → made ≡ Full
+-- what ends the run, or isn't done, was call_result of nothing but too few cells
+pub only-full : (f : Function) (args : List Text) (scanned : Bool) (w mid : Contents) (call_result : CallResult) → Makes f args scanned w call_result mid → fate_after call_result ≢ None → call_result ≡ Full
 only-full f args scanned w mid Full is some = refl
 only-full f args scanned w mid (Over fate) is some = absurd is
 only-full f args scanned w mid _ is some = absurd (some refl)
@@ -357,11 +357,11 @@ named-at w place end o end_is innermost named is =
     ap (λ l. function_named (argument l 0)) (sym (texts-all w.neutral place end end_is innermost.mark.0)) ∙ sym named ∙ is
 
 -- a function that touches no device, and neither changes the meta character nor ends the run, is plain
-pub plain-alone : (f : Function) → touches_device (Some f) ≡ false → f ≢ ChangeMeta → f ≢ Halt → is_plain f ≡ true
-plain-alone ReadString alone c g = absurd cc
-plain-alone ReadCharacter alone c g = absurd cc
-plain-alone PrintString alone c g = absurd cc
-plain-alone PrintForm alone c g = absurd cc
-plain-alone ChangeMeta alone c g = absurd (c refl)
-plain-alone Halt alone c g = absurd (g refl)
-plain-alone _ alone c g = refl
+pub no_comma_from-alone : (f : Function) → touches_device (Some f) ≡ false → f ≢ ChangeMeta → f ≢ Halt → is_self_contained f ≡ true
+no_comma_from-alone ReadString alone c g = absurd cc
+no_comma_from-alone ReadCharacter alone c g = absurd cc
+no_comma_from-alone PrintString alone c g = absurd cc
+no_comma_from-alone PrintForm alone c g = absurd cc
+no_comma_from-alone ChangeMeta alone c g = absurd (c refl)
+no_comma_from-alone Halt alone c g = absurd (g refl)
+no_comma_from-alone _ alone c g = refl

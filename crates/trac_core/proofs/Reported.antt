@@ -1,5 +1,5 @@
 -- What a run reports at its last step.
-use Rattle.trac_core.proofs.Imports.{◌≡◌, ℕ, ◌+◌, ◌-◌, max, false, true, [], ◌++◌, Some, refl, sym, ap, ◌∙◌, subst, arith, append_assoc, append_cancel_left, Fate, Halted, InputEnded, Workspace, Steps, InputFailed, OutputFailed, Text, Memory, Input, State, first, need, Run, run, Report, MachineState, Moment, ending, failing, state_with, state_of, failing_state_of, StopsAtAllowance, StopsAtRoom, StopsAtInput, StopsAtOutput, EndsRun, Answers, Course, IsReportOf, RanThrough, RanToFailure, BrokeOff, ReportsOf, Reports, Resumes, after_steps, first_runs, later_runs, made, KeepsFormsAndMeta, LeavesMemory, memory_after, state_after}
+use Rattle.trac_core.proofs.Imports.{◌≡◌, ℕ, ◌+◌, ◌-◌, max, false, true, [], ◌++◌, Some, refl, sym, ap, ◌∙◌, subst, arith, append_assoc, append_cancel_left, Fate, Halted, InputEnded, Workspace, Steps, InputFailed, OutputFailed, Text, Memory, Input, State, first, need, Run, run, Report, MachineState, Moment, ending, failing, state_with, state_of, failing_state_of, StopsAtAllowance, StopsAtRoom, StopsAtInput, StopsAtOutput, EndsRun, Answers, Course, IsReportOf, RanThrough, RanToFailure, BrokeOff, ReportsOf, Reports, Resumes, after_steps, first_runs, later_runs, fresh_machine, KeepsFormsAndMeta, LeavesMemory, memory_after, state_after}
 use Rattle.trac_language.specs.Run.{counted}
 use Rattle.trac_laws.proofs.Reached.{state_none, state_over, reached_over, reached_full, reached_spent, reached_unwritten}
 use Rattle.trac_laws.proofs.ReachedWhileReading.{anywhere_failed}
@@ -140,7 +140,7 @@ module _ (start : MachineState) (bytes before : Text) (old new : Moment) (course
       kept-before _ _ after (steps-lead 0 (state_none (state_of old)) breaks.counts.steps) keeps
 
 -- the runs from where a new machine stands are those from the first state
-first-run : (room allowance : ℕ) (input : Input) (k : ℕ) → later_runs (made room allowance) input k ≡ first_runs room input k
+first-run : (room allowance : ℕ) (input : Input) (k : ℕ) → later_runs (fresh_machine room allowance) input k ≡ first_runs room input k
 first-run room allowance input k =
     let same : k - 0 ≡ k = omega arith in
     let r = run room k (first input) in
@@ -148,7 +148,7 @@ first-run room allowance input k =
     let peak : max 0 r.peak ≡ r.peak = omega arith in
     ap (λ n. after_steps 0 0 (run room n (first input))) same ∙ (λ i. record r { steps = steps i; peak = peak i })
 
-pub reports-made : (m : MachineState) → m ≡ made m.room m.allowance → (fate : Fate) (c : Course) (report : Report) → c.room ≡ m.room → Resumes m fate c report → Reports fate c report
+pub reports-made : (m : MachineState) → m ≡ fresh_machine m.room m.allowance → (fate : Fate) (c : Course) (report : Report) → c.room ≡ m.room → Resumes m fate c report → Reports fate c report
 reports-made m new fate c report room_is told =
     let runs : later_runs m ≡ first_runs c.room = ap later_runs new ∙ (λ i input k. first-run m.room m.allowance input k i) ∙ ap first_runs (sym room_is) in
     subst (λ runs. ReportsOf runs fate c report) runs told

@@ -9,7 +9,7 @@ use Rattle.trac_core.specs.declared.machine.Counters.{Counters}
 use Rattle.trac_core.specs.declared.machine.advancing.Advance.{Advance}
 use Rattle.trac_core.specs.Performed.{needs_device}
 use Rattle.trac_core.specs.OpenCalls.{asks_host}
-use Rattle.trac_core.specs.Attempts.{NoneFailed}
+use Rattle.trac_core.specs.StepOutcomes.{NoneFailed}
 use Rattle.trac_core.specs.Machine.{MachineState, KeepsSettings, moment, GoesOn, Answers, KeepsFormsAndMeta}
 
 -- a step that needs no device, and at which no turn stops, leads from machine `old` to `new`, whatever

@@ -10,7 +10,7 @@ use Rattle.trac_devices.specs.Devices.{Stream}
 use Rattle.trac_forms.specs.Contents.{Contents}
 use Rattle.trac_functions.specs.Flat.{memory_of}
 use Rattle.trac_core.specs.Performed.{performs}
-use Rattle.trac_core.specs.Attempts.{LeavesSource, LeavesSink}
+use Rattle.trac_core.specs.StepOutcomes.{LeavesSource, LeavesSink}
 use Rattle.trac_core.specs.Machine.{MachineState, moment, counted, Answers, KeepsSettings, KeepsFormsAndMeta}
 use Rattle.trac_core.specs.Advancing.{StepsAlone, EndsAlone}
 

@@ -6,7 +6,7 @@ pub mod View
 pub mod Rules
 pub mod OpenCalls
 pub mod Session
-pub mod Attempts
+pub mod StepOutcomes
 pub mod StepsInRow
 pub mod NamedCalls
 pub mod Advancing

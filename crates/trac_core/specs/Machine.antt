@@ -24,9 +24,9 @@ pub record MachineState : Type 0 where
   -- whether turns of it stop before a call whose name is no function
   pub stops : Bool
 
--- a machine that was just made
-abbrev pub made : ℕ → ℕ → MachineState
-made room allowance =
+-- a machine that was just fresh_machine
+abbrev pub fresh_machine : ℕ → ℕ → MachineState
+fresh_machine room allowance =
     record {
       memory = empty;
       room = room;

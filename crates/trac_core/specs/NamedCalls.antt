@@ -6,7 +6,7 @@ use Rattle.trac_functions.specs.Flat.{mode_at, is_active_mode, arguments_at}
 use Rattle.trac_functions.specs.Calls.{AreArguments, texts}
 use Rattle.trac_core.specs.declared.call.NamedCall.{NamedCall}
 use Rattle.trac_core.specs.Performed.{calls_device}
-use Rattle.trac_core.specs.Attempts.{function_at}
+use Rattle.trac_core.specs.StepOutcomes.{function_at}
 
 -- `call` has the parts of the innermost call
 pub record IsNamed (call : NamedCall) (w : Contents) : Type 0 where

@@ -13,7 +13,7 @@ use Rattle.trac_core.specs.declared.machine.session.Awaits.TheVariants.{Text as 
 use Rattle.trac_forms.specs.Contents.{Contents}
 use Rattle.trac_functions.specs.Flat.{arguments_at}
 use Rattle.trac_functions.specs.Calls.{world}
-use Rattle.trac_core.specs.Attempts.{function_at}
+use Rattle.trac_core.specs.StepOutcomes.{function_at}
 use Rattle.trac_core.specs.Performed.{performs}
 use Rattle.trac_core.specs.Machine.{MachineState, state_with}
 

@@ -15,8 +15,8 @@ use Rattle.trac_space.specs.Cells.{NoComma}
 use Rattle.trac_space.specs.Texts.{text_of_cells, character_of, flat_text}
 use Rattle.trac_forms.specs.Contents.{Contents}
 use Rattle.trac_functions.specs.Flat.{memory_of}
-use Rattle.trac_core.specs.declared.scan.Pending.{Pending}
-use Rattle.trac_core.specs.declared.scan.Pending.TheVariants.{Idling, EndOfCall}
+use Rattle.trac_core.specs.declared.scan.NextAction.{NextAction}
+use Rattle.trac_core.specs.declared.scan.NextAction.TheVariants.{Idling, EndOfCall}
 use Rattle.trac_core.specs.declared.machine.Counters.{Counters}
 use Rattle.trac_core.specs.OpenCalls.{performed_call}
 use Rattle.trac_core.specs.Machine.{MachineState, state_with}
@@ -68,25 +68,25 @@ pub record SomeSteps (n most : ℕ) (old new : Contents) : Type 0 where
   pub shorter : length new.active < length old.active
 
 -- no comma mark stands in a neutral string from a place on
-abbrev pub IsPlainFrom : ℕ → List Cell → Type 0
-IsPlainFrom place neutral = NoComma (drop place neutral)
+abbrev pub HasNoCommaFrom : ℕ → List Cell → Type 0
+HasNoCommaFrom place neutral = NoComma (drop place neutral)
 
 -- where no comma mark stood in the neutral string from a place on, none stands there still
-abbrev pub KeepsPlain : Contents → Contents → Type 0
-KeepsPlain old new =
-    (place : ℕ) → IsPlainFrom place old.neutral → IsPlainFrom place new.neutral
+abbrev pub KeepsNoComma : Contents → Contents → Type 0
+KeepsNoComma old new =
+    (place : ℕ) → HasNoCommaFrom place old.neutral → HasNoCommaFrom place new.neutral
 
 -- what the next step asks for: the idling procedure, since the active string is empty; or the
 -- innermost call, since a right parenthesis that begins that string closes it
-abbrev pub AsksFor : Pending → Contents → Type 0
+abbrev pub AsksFor : NextAction → Contents → Type 0
 AsksFor Idling w = w.active ≡ []
 AsksFor (EndOfCall call) w =
     (slice_get (text_of_cells w.active) 0 ≡ Some 41) × IsLastCall w.neutral call.place
-    × IsPlainFrom call.plain w.neutral
+    × HasNoCommaFrom call.no_comma_from w.neutral
 
 -- what the front of the active string comes to: at most `most` steps that perform no call, or none of
 -- them, since it asks for a call or for the idling procedure
-abbrev pub ComesTo : Result ℕ Pending → ℕ → Contents → Contents → Type 0
+abbrev pub ComesTo : Result ℕ NextAction → ℕ → Contents → Contents → Type 0
 ComesTo (Ok n) most old new = SomeSteps n most old new
 ComesTo (Err front) most old new = (new ≡ old) × AsksFor front old
 

@@ -10,20 +10,20 @@ ghost use Rattle.trac_language.specs.State.{argument};
 ghost use Rattle.trac_functions.specs.Flat.{arguments_at, memory_of, mode_at, is_active_mode};
 ghost use Rattle.trac_functions.specs.Calls.{AreArguments, texts};
 ghost use Rattle.trac_core.specs.Performed.{calls_device, performs, touches_device};
-ghost use Rattle.trac_core.specs.Attempts.{scene, Tried, TriedCall, function_at, TakesFrom};
-ghost use Rattle.trac_core.specs.Attempts.{TakesAtMost, AnswersCall, Stands, fate_after};
-ghost use Rattle.trac_core.specs.Attempts.{LeavesSource, LeavesSink, EndsQuietly, NoneFailed, HasArguments};
+ghost use Rattle.trac_core.specs.StepOutcomes.{scene, Tried, TriedCall, function_at, TakesFrom};
+ghost use Rattle.trac_core.specs.StepOutcomes.{TakesAtMost, AnswersCall, Stands, fate_after};
+ghost use Rattle.trac_core.specs.StepOutcomes.{LeavesSource, LeavesSink, EndsQuietly, NoneFailed, HasArguments};
 ghost use Rattle.trac_core.specs.NamedCalls.{IsAlone, IsNamed};
 ghost use Rattle.trac_devices.specs.Devices.{Stream};
-ghost use Rattle.trac_core.specs.StepsInRow.{AsksFor, IsPlainFrom};
+ghost use Rattle.trac_core.specs.StepsInRow.{AsksFor, HasNoCommaFrom};
 ghost use Rattle.trac_functions.specs.Calls.{KeepsRoom};
 
-use crate::attempt::Attempt;
 use crate::delivery::{finish_call, is_active_call};
 use crate::display::print_form;
 use crate::idling::load_idling;
 use crate::input_output::{change_meta, print_string, read_character, read_string};
-use crate::scan::{InnermostCall, Pending};
+use crate::outcome::StepOutcome;
+use crate::scan::{InnermostCall, NextAction};
 use trac_devices::{Sink, Source};
 use trac_forms::Work;
 use trac_functions::arguments::{Arguments, CallResult};
@@ -35,17 +35,17 @@ use trac_space::Part;
 /// the idling procedure is loaded, or the right parenthesis is deleted and the innermost call
 /// performed.
 #[inline(always)]
-pub(crate) fn perform_pending<I: Source, O: Sink>(
+pub(crate) fn perform_next<I: Source, O: Sink>(
     work: &mut Work,
-    pending: Pending,
+    action: NextAction,
     meta: &mut u8,
     source: &mut I,
     sink: &mut O,
-) -> Attempt
+) -> StepOutcome
     requires source_counts { I.failure_count source.old < 2 ^ 64 - 1 }
     requires sink_counts { O.failure_count sink.old < 2 ^ 64 - 1 }
     requires sound { IsSound work.old }
-    requires asks { AsksFor pending work.old }
+    requires asks { AsksFor action work.old }
     ensures tried { I.tells source.old → O.tells sink.old →
         Tried (scene work.old meta.old (I.stream source.old) (O.written sink.old))
         result.fate result.need
@@ -62,9 +62,9 @@ pub(crate) fn perform_pending<I: Source, O: Sink>(
     ensures fits { result.need ≤ work.old.room }
     ensures keeps { KeepsRoom work.old work.new }
 {
-    match pending {
-        Pending::Idling => load_idling(work),
-        Pending::EndOfCall(call) => {
+    match action {
+        NextAction::Idling => load_idling(work),
+        NextAction::EndOfCall(call) => {
             work.drop_active(1);
             perform(work, call, meta, source, sink)
         }
@@ -79,9 +79,9 @@ fn perform<I: Source, O: Sink>(
     meta: &mut u8,
     source: &mut I,
     sink: &mut O,
-) -> Attempt
+) -> StepOutcome
     requires innermost { IsLastCall work.old.neutral call.place }
-    requires plain { IsPlainFrom call.plain work.old.neutral }
+    requires no_comma_from { HasNoCommaFrom call.no_comma_from work.old.neutral }
     requires source_counts { I.failure_count source.old < 2 ^ 64 - 1 }
     requires sink_counts { O.failure_count sink.old < 2 ^ 64 - 1 }
     requires sound { IsSound work.old }
@@ -110,13 +110,13 @@ fn perform<I: Source, O: Sink>(
     let Some(function) = parts.function else {
         return finish_call(work, part, before, nothing(work, parts));
     };
-    let made = answer(work, parts, function, meta, source, sink);
-    finish_call(work, part, before, made)
+    let call_result = answer(work, parts, function, meta, source, sink);
+    finish_call(work, part, before, call_result)
 }
 
 /// Performs the innermost call, whose right parenthesis was deleted and which needs no device.
 #[inline(always)]
-pub(crate) fn perform_alone(work: &mut Work, call: NamedCall, meta: &mut u8) -> Attempt
+pub(crate) fn perform_alone(work: &mut Work, call: NamedCall, meta: &mut u8) -> StepOutcome
     requires named { IsNamed call work.old }
     requires alone { IsAlone work.old call.place }
     ensures tried { (source : Stream) (written : Text) →
@@ -130,12 +130,12 @@ pub(crate) fn perform_alone(work: &mut Work, call: NamedCall, meta: &mut u8) -> 
 {
     let before = work.used();
     let end = work.neutral_len();
-    let made = answer_alone(work, call, meta);
+    let call_result = answer_alone(work, call, meta);
     let part = Part {
         from: call.place,
         to: end,
     };
-    finish_call(work, part, before, made)
+    finish_call(work, part, before, call_result)
 }
 
 /// The innermost call by its parts.
@@ -153,7 +153,7 @@ pub(crate) struct NamedCall {
 #[inline(always)]
 pub(crate) fn named(work: &Work, call: InnermostCall) -> NamedCall
     requires innermost { IsLastCall work.now.neutral call.place }
-    requires plain { IsPlainFrom call.plain work.now.neutral }
+    requires no_comma_from { HasNoCommaFrom call.no_comma_from work.now.neutral }
     requires sound { IsSound work.now }
     ensures named { IsNamed result work.now }
     ensures place { result.place ≡ call.place }
@@ -161,7 +161,7 @@ pub(crate) fn named(work: &Work, call: InnermostCall) -> NamedCall
     let mut arguments = Arguments {
         from: call.place + 1,
         end: work.neutral_len(),
-        plain: call.plain,
+        no_comma_from: call.no_comma_from,
         scanned: is_active_call(work, call.place),
     };
     NamedCall {
@@ -252,7 +252,7 @@ fn answer<I: Source, O: Sink>(
         Function::ReadCharacter => read_character(work, source),
         Function::PrintString => print_string(work, call.arguments, sink),
         Function::PrintForm => print_form(work, call.arguments, sink),
-        _ => made_alone(work, function, call.arguments, meta),
+        _ => result_alone(work, function, call.arguments, meta),
     }
 }
 
@@ -274,14 +274,14 @@ fn answer_alone(work: &mut Work, call: NamedCall, meta: &mut u8) -> CallResult
         None => CallResult::Null(0),
         Some(function) => match function {
             Function::PrintString => CallResult::Null(0),
-            _ => made_alone(work, function, call.arguments, meta),
+            _ => result_alone(work, function, call.arguments, meta),
         },
     }
 }
 
 /// What a function that touches no device makes of the arguments that follow its name.
 #[inline(always)]
-fn made_alone(
+fn result_alone(
     work: &mut Work,
     function: Function,
     arguments: Arguments,

@@ -4,11 +4,11 @@ ghost use Rattle.trac_space.specs.Calls.{IsLastCall};
 ghost use Rattle.trac_space.specs.Texts.{IsByte};
 ghost use Rattle.trac_forms.specs.Contents.{IsSound};
 ghost use Rattle.trac_functions.specs.Flat.{mode_of, mode_at, is_active_mode};
-ghost use Rattle.trac_core.specs.Attempts.{value_delivered, settled, fate_after, need_after};
-ghost use Rattle.trac_core.specs.Attempts.{Stands};
+ghost use Rattle.trac_core.specs.StepOutcomes.{value_delivered, settled, fate_after, need_after};
+ghost use Rattle.trac_core.specs.StepOutcomes.{Stands};
 ghost use Rattle.trac_functions.specs.Calls.{KeepsRoom};
 
-use crate::attempt::Attempt;
+use crate::outcome::StepOutcome;
 use trac_forms::Work;
 use trac_functions::arguments::CallResult;
 use trac_language::{Fate, Mode};
@@ -18,17 +18,22 @@ use trac_space::{Cell, Part};
 /// function answered comes to its end: a value that doesn't stand where it belongs is moved there.
 /// `before` cells were used when the call was performed.
 #[inline(always)]
-pub(crate) fn finish_call(work: &mut Work, call: Part, before: u32, made: CallResult) -> Attempt
+pub(crate) fn finish_call(
+    work: &mut Work,
+    call: Part,
+    before: u32,
+    call_result: CallResult,
+) -> StepOutcome
     requires order { call.from < call.to }
-    requires stands { Stands made before call.to work.old }
+    requires stands { Stands call_result before call.to work.old }
     requires sound { IsSound work.old }
-    ensures settled { work.new ≡ settled made call.from call.to work.old }
-    ensures fate { result.fate ≡ fate_after made }
-    ensures need { result.need ≡ need_after made before call.to work.old }
+    ensures settled { work.new ≡ settled call_result call.from call.to work.old }
+    ensures fate { result.fate ≡ fate_after call_result }
+    ensures need { result.need ≡ need_after call_result before call.to work.old }
     ensures fits { result.need ≤ work.old.room }
     ensures keeps { KeepsRoom work.old work.new }
 {
-    let (fate, need) = match made {
+    let (fate, need) = match call_result {
         CallResult::Full => (Some(Fate::Workspace), 0),
         CallResult::Over(fate) => (Some(fate), work.used()),
         CallResult::InFront(cells) | CallResult::Null(cells) => {
@@ -46,7 +51,7 @@ pub(crate) fn finish_call(work: &mut Work, call: Part, before: u32, made: CallRe
             (None, need)
         }
     };
-    Attempt { fate, need }
+    StepOutcome { fate, need }
 }
 
 /// The call whose mark stands at the place leaves, and its value, which stands from another place

@@ -6,8 +6,8 @@ ghost use Rattle.trac_language.specs.Meaning.{show, show_form};
 ghost use Rattle.trac_forms.specs.Contents.{used, IsTextPart, IsSound};
 ghost use Rattle.trac_devices.specs.Devices.{Stream, failures_of, Prints};
 ghost use Rattle.trac_functions.specs.Calls.{AreArguments};
-ghost use Rattle.trac_core.specs.Attempts.{scene, HasArguments, AnswersCall, Stands, fate_after};
-ghost use Rattle.trac_core.specs.Attempts.{LeavesSink};
+ghost use Rattle.trac_core.specs.StepOutcomes.{scene, HasArguments, AnswersCall, Stands, fate_after};
+ghost use Rattle.trac_core.specs.StepOutcomes.{LeavesSink};
 ghost use Rattle.trac_core.specs.Display.{display_named, shown};
 
 use crate::streaming::print_bytes;

@@ -2,10 +2,10 @@
 ghost use Rattle.std.specs.Prelude.{◌≡◌, ◌+◌, ◌≤◌, [], ◌↔◌, IsTrue};
 ghost use Rattle.trac_language.specs.Store.{cells};
 ghost use Rattle.trac_functions.specs.Calls.{KeepsRoom};
-ghost use Rattle.trac_core.specs.Attempts.{Scanned, NoneFailed};
+ghost use Rattle.trac_core.specs.StepOutcomes.{Scanned, NoneFailed};
 ghost use Rattle.trac_core.specs.StepsInRow.{idling_begun};
 
-use crate::attempt::Attempt;
+use crate::outcome::StepOutcome;
 use trac_forms::Work;
 use trac_language::{Fate, Mode};
 use trac_space::Cell;
@@ -31,7 +31,7 @@ pub(crate) const IDLING_STEPS: u64 = 8;
 
 /// The active string is empty: the neutral string is cleared, and the idling procedure becomes the
 /// active string, if there are cells for it.
-pub(crate) fn load_idling(work: &mut Work) -> Attempt
+pub(crate) fn load_idling(work: &mut Work) -> StepOutcome
     requires { work.old.active ≡ [] }
     ensures scanned { Scanned result.fate result.need work.old work.new }
     ensures fate { NoneFailed result.fate }
@@ -41,12 +41,12 @@ pub(crate) fn load_idling(work: &mut Work) -> Attempt
 {
     work.clear_neutral();
     if work.load_active(IDLING) {
-        Attempt {
+        StepOutcome {
             fate: None,
             need: work.used(),
         }
     } else {
-        Attempt {
+        StepOutcome {
             fate: Some(Fate::Workspace),
             need: 0,
         }

@@ -6,8 +6,8 @@ ghost use Rattle.trac_space.specs.Texts.{text_of_cells};
 ghost use Rattle.trac_forms.specs.Contents.{IsSound, used};
 ghost use Rattle.trac_devices.specs.Devices.{Stream};
 ghost use Rattle.trac_functions.specs.Calls.{AreArguments};
-ghost use Rattle.trac_core.specs.Attempts.{scene, IsCall, HasArguments, AnswersCall, Stands};
-ghost use Rattle.trac_core.specs.Attempts.{TakesFrom, fate_after, LeavesSource, LeavesSink};
+ghost use Rattle.trac_core.specs.StepOutcomes.{scene, IsCall, HasArguments, AnswersCall, Stands};
+ghost use Rattle.trac_core.specs.StepOutcomes.{TakesFrom, fate_after, LeavesSource, LeavesSink};
 ghost use Rattle.trac_functions.specs.Calls.{KeepsRoom};
 
 use crate::streaming::{ReadEnd, print_text, read_text};

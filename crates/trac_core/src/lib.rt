@@ -2,13 +2,13 @@
 //! it and that a caller needs has its name here too.
 #![tactic(auto)]
 
-mod attempt;
 mod call;
 mod delivery;
 mod display;
 mod idling;
 mod input_output;
 mod machine;
+mod outcome;
 mod performer;
 mod rules;
 mod run_hints;

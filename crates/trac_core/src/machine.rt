@@ -5,14 +5,14 @@ ghost use Rattle.trac_language.specs.Text.{Text};
 ghost use Rattle.trac_language.specs.State.{Memory};
 ghost use Rattle.trac_devices.specs.Devices.{Sent};
 ghost use Rattle.trac_core.specs.Performed.{performs, reads_input, prints_output};
-ghost use Rattle.trac_core.specs.Machine.{made, KeepsLimits, moment, Answers, Takes, StaysOver};
+ghost use Rattle.trac_core.specs.Machine.{fresh_machine, KeepsLimits, moment, Answers, Takes, StaysOver};
 ghost use Rattle.trac_core.specs.Machine.{input_failures, output_failures, reported_input_failures};
 ghost use Rattle.trac_core.specs.Machine.{reported_output_failures, Reports, course, counted};
 ghost use Rattle.trac_core.specs.Machine.{MachineState, Resumes, LeavesMemory, counts_as_step};
 ghost use Rattle.trac_functions.specs.Flat.{memory_of};
 
-use crate::attempt::Attempt;
-use crate::call::perform_pending;
+use crate::call::perform_next;
+use crate::outcome::StepOutcome;
 use crate::performer::WithDevices;
 use crate::scan::scan_once;
 use std::marker::Model;
@@ -45,7 +45,7 @@ pub struct Machine<'a> {
     work: Work<'a>,
     meta: u8,
     /// A place of the neutral string from which on no comma mark stands.
-    plain: u32,
+    no_comma_from: u32,
     allowance: u64,
     steps: u64,
     peak: u32,
@@ -59,7 +59,7 @@ impl<'a> Model for Machine<'a> {
     ghost use Rattle.trac_forms.specs.Contents.{IsSound};
     ghost use Rattle.trac_functions.specs.Flat.{memory_of};
     ghost use Rattle.trac_core.specs.Machine.{MachineState};
-    ghost use Rattle.trac_core.specs.StepsInRow.{IsPlainFrom};
+    ghost use Rattle.trac_core.specs.StepsInRow.{HasNoCommaFrom};
 
     ghost Value = { MachineState };
 
@@ -74,7 +74,7 @@ impl<'a> Model for Machine<'a> {
     } };
 
     ghost invariant = { λ m. (m.steps ≤ m.allowance) × (m.peak ≤ m.work.room) × IsSound m.work
-        × IsPlainFrom m.plain m.work.neutral };
+        × HasNoCommaFrom m.no_comma_from m.work.neutral };
 }
 
 impl<'a> Machine<'a> {
@@ -82,12 +82,12 @@ impl<'a> Machine<'a> {
     /// It has no form, and the apostrophe is its meta character.
     pub fn over(block: &'a mut [Cell], steps: u64) -> Machine<'a>
         requires { length block.old ≤ 16777216 }
-        ensures { result ≡ made (length block.old) steps }
+        ensures { result ≡ fresh_machine (length block.old) steps }
     {
         Machine {
             work: Work::over(block),
             meta: b'\'',
-            plain: 0,
+            no_comma_from: 0,
             allowance: steps,
             steps: 0,
             peak: 0,
@@ -161,57 +161,57 @@ impl<'a> Machine<'a> {
             return self.fate;
         }
         if self.steps == self.allowance {
-            return self.count(Attempt {
+            return self.count(StepOutcome {
                 fate: Some(Fate::Steps),
                 need: 0,
             });
         }
         let need = self.work.used();
-        let Some(pending) = scan_once(&mut self.work, self.plain) else {
-            self.plain = self.work.neutral_len();
-            return self.count(Attempt { fate: None, need });
+        let Some(action) = scan_once(&mut self.work, self.no_comma_from) else {
+            self.no_comma_from = self.work.neutral_len();
+            return self.count(StepOutcome { fate: None, need });
         };
-        let attempt = perform_pending(&mut self.work, pending, &mut self.meta, source, sink);
-        self.plain = self.work.neutral_len();
-        self.count(attempt)
+        let outcome = perform_next(&mut self.work, action, &mut self.meta, source, sink);
+        self.no_comma_from = self.work.neutral_len();
+        self.count(outcome)
     }
 
     /// Counts a step that came to this, of a run that is not over.
-    fn count(&mut self, attempt: Attempt) -> Option<Fate>
+    fn count(&mut self, outcome: StepOutcome) -> Option<Fate>
         requires not_over { self.old.fate ≡ None }
-        requires allowed { counts_as_step attempt.fate ≡ true →
+        requires allowed { counts_as_step outcome.fate ≡ true →
             self.old.steps < self.old.allowance }
-        requires fits { attempt.need ≤ self.old.room }
-        ensures answer { result ≡ attempt.fate }
-        ensures after { self.new ≡ counted self.old self.old.memory attempt.need attempt.fate }
+        requires fits { outcome.need ≤ self.old.room }
+        ensures answer { result ≡ outcome.fate }
+        ensures after { self.new ≡ counted self.old self.old.memory outcome.need outcome.fate }
         ensures limits { KeepsLimits self.new }
     {
         prove!(self.steps <= self.allowance);
         prove!(self.work.used() <= self.work.room());
-        match attempt.fate {
+        match outcome.fate {
             None | Some(Fate::Halted | Fate::InputEnded) => {
                 self.steps += 1;
-                self.peak = self.peak.max(attempt.need);
+                self.peak = self.peak.max(outcome.need);
             }
             Some(Fate::InputFailed | Fate::OutputFailed) => {
-                self.peak = self.peak.max(attempt.need);
+                self.peak = self.peak.max(outcome.need);
             }
             Some(Fate::Workspace | Fate::Steps) => {}
         }
         prove!(self.steps <= self.allowance);
         prove!(self.peak <= self.work.room());
         prove!(self.work.used() <= self.work.room());
-        if attempt.fate.is_some() {
-            self.fate = attempt.fate;
+        if outcome.fate.is_some() {
+            self.fate = outcome.fate;
         }
-        attempt.fate
+        outcome.fate
     }
 
     /// Makes steps to the end of the run, and reports what it came to: with neither device failing,
     /// the output, the fate, the steps and the peak of the definition's run in this room with this
-    /// allowance. A machine that was just made is run.
+    /// allowance. A machine that was just fresh_machine is run.
     pub fn run<I: Source, O: Sink>(mut self, source: &mut I, sink: &mut O) -> Report
-        requires made { self ≡ made self.room self.allowance }
+        requires fresh_machine { self ≡ fresh_machine self.room self.allowance }
         requires source_counts { I.failure_count source.old < 2 ^ 64 - 1 }
         requires sink_counts { O.failure_count sink.old < 2 ^ 64 - 1 }
         ensures reports { I.tells source.old → O.tells sink.old →

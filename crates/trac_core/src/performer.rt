@@ -10,10 +10,10 @@ ghost use Rattle.trac_core.specs.Performed.{needs_device};
 ghost use Rattle.trac_core.specs.OpenCalls.{stops_at};
 ghost use Rattle.trac_core.specs.Driving.{Standing, PerformedFor, Declined, PerformedAlone, PerformedWith};
 
-use crate::attempt::Attempt;
-use crate::call::{asks_host, named, needs_device, perform_alone, perform_pending};
+use crate::call::{asks_host, named, needs_device, perform_alone, perform_next};
 use crate::idling::load_idling;
-use crate::scan::Pending;
+use crate::outcome::StepOutcome;
+use crate::scan::NextAction;
 use trac_devices::{Sink, Source};
 use trac_forms::Work;
 use trac_language::Function;
@@ -34,21 +34,21 @@ pub(crate) trait Performer<I, O>: Copy {
     fn perform(
         self,
         work: &mut Work,
-        pending: Pending,
+        action: NextAction,
         meta: &mut u8,
         source: &mut I,
         sink: &mut O,
-    ) -> Result<Attempt, Option<Function>>
+    ) -> Result<StepOutcome, Option<Function>>
         requires ready { ready source.old sink.old }
         requires sound { IsSound work.old }
-        requires asks { AsksFor pending work.old }
+        requires asks { AsksFor action work.old }
         ensures done { MatchResult result
-            (λ attempt. PerformedFor (performed self) attempt.fate attempt.need work.old meta.old
+            (λ outcome. PerformedFor (performed self) outcome.fate outcome.need work.old meta.old
             source.old sink.old work.new meta.new source.new sink.new)
             (λ function. Declined (declines self) function work.old meta.old source.old sink.old
             work.new meta.new source.new sink.new) }
-        ensures ready { IfOk result (λ attempt. attempt.fate ≡ None → ready source.new sink.new) }
-        ensures fits { IfOk result (λ attempt. attempt.need ≤ work.old.room) }
+        ensures ready { IfOk result (λ outcome. outcome.fate ≡ None → ready source.new sink.new) }
+        ensures fits { IfOk result (λ outcome. outcome.need ≤ work.old.room) }
         ensures keeps { KeepsRoom work.old work.new };
 }
 
@@ -69,12 +69,12 @@ impl<I: Source, O: Sink> Performer<I, O> for WithDevices {
     fn perform(
         self,
         work: &mut Work,
-        pending: Pending,
+        action: NextAction,
         meta: &mut u8,
         source: &mut I,
         sink: &mut O,
-    ) -> Result<Attempt, Option<Function>> {
-        Ok(perform_pending(work, pending, meta, source, sink))
+    ) -> Result<StepOutcome, Option<Function>> {
+        Ok(perform_next(work, action, meta, source, sink))
     }
 }
 
@@ -98,14 +98,14 @@ impl Performer<(), ()> for Alone {
     fn perform(
         self,
         work: &mut Work,
-        pending: Pending,
+        action: NextAction,
         meta: &mut u8,
         _source: &mut (),
         _sink: &mut (),
-    ) -> Result<Attempt, Option<Function>> {
-        match pending {
-            Pending::Idling => Ok(load_idling(work)),
-            Pending::EndOfCall(call) => {
+    ) -> Result<StepOutcome, Option<Function>> {
+        match action {
+            NextAction::Idling => Ok(load_idling(work)),
+            NextAction::EndOfCall(call) => {
                 let call = named(work, call);
                 if needs_device(work, call) {
                     return Err(call.function);

@@ -2,12 +2,12 @@
 ghost use Rattle.std.specs.Prelude.{◌≡◌, ◌+◌, ◌<◌, ◌↔◌, IsTrue, min};
 ghost use Rattle.std.specs.Bool.{OnTrue, OnFalse};
 
-/// What the scanner knows when the next run begins. `plain_from` must be right; `long_runs` may be any
+/// What the scanner knows when the next run begins. `no_comma_from` must be right; `long_runs` may be any
 /// number, since it only decides how a run is moved.
 #[derive(Clone, Copy, Debug, PartialEq, Eq)]
 pub(crate) struct RunHints {
     /// A place of the neutral string from which on no comma mark stands.
-    pub(crate) plain_from: u32,
+    pub(crate) no_comma_from: u32,
     /// How many long runs followed one another last.
     pub(crate) long_runs: u32,
 }
@@ -16,11 +16,11 @@ impl RunHints {
     /// Hints with a place of the neutral string from which on no comma mark stands. No long run came
     /// before.
     #[inline(always)]
-    pub(crate) fn new(plain_from: u32) -> RunHints
-        ensures { result ≡ record { plain_from = plain_from; long_runs = 0 } }
+    pub(crate) fn new(no_comma_from: u32) -> RunHints
+        ensures { result ≡ record { no_comma_from = no_comma_from; long_runs = 0 } }
     {
         RunHints {
-            plain_from,
+            no_comma_from,
             long_runs: 0,
         }
     }

@@ -33,7 +33,7 @@ const SIDES: &[u8; 256] = b"\
     \0\0\0\0\0\0\0\0\0\0\0\0\0\0\0\0\0\0\0\0\0\0\0\0\0\0\0\0\0\0\0\0";
 
 // How many characters of a run are looked at one by one before it is looked at by blocks.
-const FEW: usize = 8;
+const LOOKED_AT_ONE_BY_ONE: usize = 8;
 // How many characters are looked at by one test of a table.
 const BLOCK: usize = 8;
 // What the table of parentheses says of a right one: more than of the left ones of a block together.
@@ -74,7 +74,7 @@ pub(crate) fn ordinary_characters(cells: &[Cell]) -> u32
     ensures within { result ≤ length cells.now }
     ensures ordinary { All IsOrdinary (take result (text_of_cells cells.now)) }
 {
-    let few = cells.len().min(FEW);
+    let few = cells.len().min(LOOKED_AT_ONE_BY_ONE);
     match special_before(cells, 0, few) {
         Some(i) => i as u32,
         None => ordinary_run(cells, few),

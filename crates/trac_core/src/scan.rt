@@ -4,9 +4,9 @@ ghost use Rattle.std.specs.Prelude.{take, drop, slice_get, IsTrue, ◌↔◌, No
 ghost use Rattle.std.specs.Prelude.{MatchOption};
 ghost use Rattle.trac_space.specs.Texts.{text_of_cells, IsByte};
 ghost use Rattle.trac_forms.specs.Contents.{used, IsSound};
-ghost use Rattle.trac_core.specs.Attempts.{Scans};
+ghost use Rattle.trac_core.specs.StepOutcomes.{Scans};
 ghost use Rattle.trac_core.specs.StepsInRow.{IsOrdinary, IsLayout, Advances, SomeSteps};
-ghost use Rattle.trac_core.specs.StepsInRow.{ComesTo, AsksFor, IsPlainFrom, KeepsPlain, kind_of};
+ghost use Rattle.trac_core.specs.StepsInRow.{ComesTo, AsksFor, HasNoCommaFrom, KeepsNoComma, kind_of};
 ghost use Rattle.trac_core.specs.Rules.{Begins, Opens};
 ghost use Rattle.trac_space.specs.Calls.{IsLastCall};
 ghost use Rattle.trac_functions.specs.Calls.{KeepsRoom};
@@ -21,7 +21,7 @@ use trac_space::{Cell, byte_in};
 
 // Up to this many characters of a run in a call are moved as they are looked at; a longer run is long.
 // Up to twelve, the compiler makes code without a loop.
-const FEW: u64 = 12;
+const MOVED_ONE_BY_ONE: u64 = 12;
 
 /// The cells of the active string.
 #[inline(always)]
@@ -48,7 +48,7 @@ pub(crate) fn is_at(work: &Work, place: u32, byte: u8) -> bool
 
 /// What the beginning of the active string asks for where no rule fits that only scans.
 #[derive(Clone, Copy, Debug, PartialEq, Eq)]
-pub(crate) enum Pending {
+pub(crate) enum NextAction {
     /// It is empty: the idling procedure.
     Idling,
     /// A right parenthesis: the innermost call.
@@ -61,25 +61,28 @@ pub(crate) struct InnermostCall {
     /// Where its mark stands in the neutral string.
     pub(crate) place: u32,
     /// A place of that string from which on no comma mark stands.
-    pub(crate) plain: u32,
+    pub(crate) no_comma_from: u32,
 }
 
 /// One step that performs no call. Gives what the step asks for instead where it does perform one.
-/// From the plain place on no comma mark stands in the neutral string.
-pub(crate) fn scan_once(work: &mut Work, plain: u32) -> Option<Pending>
-    requires plain { IsPlainFrom plain work.old.neutral }
+/// From place `no_comma_from` on no comma mark stands in the neutral string.
+pub(crate) fn scan_once(work: &mut Work, no_comma_from: u32) -> Option<NextAction>
+    requires no_comma_from { HasNoCommaFrom no_comma_from work.old.neutral }
     requires sound { IsSound work.old }
     ensures comes { MatchOption result
         (Advances 1 work.old work.new)
-        (λ pending. (work.new ≡ work.old) × AsksFor pending work.old) }
+        (λ action. (work.new ≡ work.old) × AsksFor action work.old) }
     ensures keeps { KeepsRoom work.old work.new }
 {
     if let Some(place) = closed_call(work) {
-        return Some(Pending::EndOfCall(InnermostCall { place, plain }));
+        return Some(NextAction::EndOfCall(InnermostCall {
+            place,
+            no_comma_from,
+        }));
     }
-    match scan_steps(work, 1, &mut RunHints::new(plain)) {
+    match scan_steps(work, 1, &mut RunHints::new(no_comma_from)) {
         Ok(_) => None,
-        Err(pending) => Some(pending),
+        Err(action) => Some(action),
     }
 }
 
@@ -87,16 +90,20 @@ pub(crate) fn scan_once(work: &mut Work, plain: u32) -> Option<Pending>
 /// run of ordinary characters, in a call with the commas between them, or of layout characters, or
 /// one step of another rule that performs no call.
 #[inline(always)]
-pub(crate) fn scan_steps(work: &mut Work, most: u64, hints: &mut RunHints) -> Result<u64, Pending>
+pub(crate) fn scan_steps(
+    work: &mut Work,
+    most: u64,
+    hints: &mut RunHints,
+) -> Result<u64, NextAction>
     requires some { 0 < most }
-    requires plain { IsPlainFrom hints.old.plain_from work.old.neutral }
+    requires no_comma_from { HasNoCommaFrom hints.old.no_comma_from work.old.neutral }
     requires sound { IsSound work.old }
     ensures comes { ComesTo result most work.old work.new }
-    ensures plain { IsPlainFrom hints.new.plain_from work.new.neutral }
+    ensures no_comma_from { HasNoCommaFrom hints.new.no_comma_from work.new.neutral }
     ensures keeps { KeepsRoom work.old work.new }
 {
     match next_rule(work) {
-        ScanningRule::Idling => Err(Pending::Idling),
+        ScanningRule::Idling => Err(NextAction::Idling),
         ScanningRule::Layout => Ok(delete_layout(work, most)),
         ScanningRule::Protection => {
             protect(work);
@@ -109,7 +116,7 @@ pub(crate) fn scan_steps(work: &mut Work, most: u64, hints: &mut RunHints) -> Re
             add_number_sign(work);
             Ok(1)
         }
-        ScanningRule::EndOfCall => end_call(work, hints.plain_from),
+        ScanningRule::EndOfCall => end_call(work, hints.no_comma_from),
         ScanningRule::Character => Ok(add_characters(work, most, hints)),
     }
 }
@@ -126,16 +133,19 @@ fn next_rule(work: &Work) -> ScanningRule
 /// A right parenthesis closes the innermost call, or, where none is
 /// open, is deleted (this processor's own choice).
 #[inline]
-fn end_call(work: &mut Work, plain: u32) -> Result<u64, Pending>
+fn end_call(work: &mut Work, no_comma_from: u32) -> Result<u64, NextAction>
     requires closes { slice_get (text_of_cells work.old.active) 0 ≡ Some 41 }
-    requires plain { IsPlainFrom plain work.old.neutral }
+    requires no_comma_from { HasNoCommaFrom no_comma_from work.old.neutral }
     requires sound { IsSound work.old }
     ensures comes { ComesTo result 1 work.old work.new }
-    ensures plain { KeepsPlain work.old work.new }
+    ensures no_comma_from { KeepsNoComma work.old work.new }
     ensures keeps { KeepsRoom work.old work.new }
 {
     match work.last_call() {
-        Some(place) => Err(Pending::EndOfCall(InnermostCall { place, plain })),
+        Some(place) => Err(NextAction::EndOfCall(InnermostCall {
+            place,
+            no_comma_from,
+        })),
         None => {
             work.drop_active(1);
             Ok(1)
@@ -151,19 +161,19 @@ fn add_characters(work: &mut Work, most: u64, hints: &mut RunHints) -> u64
     requires some { 0 < most }
     requires first { (c : ℕ) ×
         ((slice_get (text_of_cells work.old.active) 0 ≡ Some c) × IsOrdinary c) }
-    requires plain { IsPlainFrom hints.old.plain_from work.old.neutral }
+    requires no_comma_from { HasNoCommaFrom hints.old.no_comma_from work.old.neutral }
     requires sound { IsSound work.old }
     ensures passes { SomeSteps result most work.old work.new }
-    ensures plain { IsPlainFrom hints.new.plain_from work.new.neutral }
+    ensures no_comma_from { HasNoCommaFrom hints.new.no_comma_from work.new.neutral }
     ensures keeps { KeepsRoom work.old work.new }
 {
-    let before = hints.plain_from;
+    let before = hints.no_comma_from;
     let count = if hints.long_runs_follow() || work.last_call().is_none() {
         add_long_run(work, most)
     } else {
         add_run(work, most, hints)
     };
-    let is_long = count >= FEW && hints.plain_from == before;
+    let is_long = count >= MOVED_ONE_BY_ONE && hints.no_comma_from == before;
     hints.count_run(is_long);
     count
 }
@@ -174,10 +184,10 @@ fn add_characters(work: &mut Work, most: u64, hints: &mut RunHints) -> u64
 fn begin_argument(work: &mut Work, most: u64, hints: &mut RunHints) -> u64
     requires some { 0 < most }
     requires first { slice_get (text_of_cells work.old.active) 0 ≡ Some 44 }
-    requires plain { IsPlainFrom hints.old.plain_from work.old.neutral }
+    requires no_comma_from { HasNoCommaFrom hints.old.no_comma_from work.old.neutral }
     requires sound { IsSound work.old }
     ensures passes { SomeSteps result most work.old work.new }
-    ensures plain { IsPlainFrom hints.new.plain_from work.new.neutral }
+    ensures no_comma_from { HasNoCommaFrom hints.new.no_comma_from work.new.neutral }
     ensures runs { hints.new.long_runs ≡ hints.old.long_runs }
     ensures keeps { KeepsRoom work.old work.new }
 {
@@ -187,33 +197,33 @@ fn begin_argument(work: &mut Work, most: u64, hints: &mut RunHints) -> u64
     }
     if hints.long_runs_follow() {
         work.active_to_cell(1, Cell::Comma);
-        hints.plain_from = work.neutral_len();
+        hints.no_comma_from = work.neutral_len();
         return 1;
     }
     add_run(work, most, hints)
 }
 
 /// Adds the ordinary characters and the commas at the front of the active string where a call is
-/// open, at most `most` and at most `FEW`. Gives how many steps these are: 0 where another character
+/// open, at most `most` and at most `MOVED_ONE_BY_ONE`. Gives how many steps these are: 0 where another character
 /// stands there.
 #[inline(always)]
 fn add_run(work: &mut Work, most: u64, hints: &mut RunHints) -> u64
     requires opened { (place : ℕ) × IsLastCall work.old.neutral place }
-    requires plain { IsPlainFrom hints.old.plain_from work.old.neutral }
+    requires no_comma_from { HasNoCommaFrom hints.old.no_comma_from work.old.neutral }
     requires sound { IsSound work.old }
     ensures passes { Advances result work.old work.new }
     ensures few { result ≤ most }
     ensures some { (c : ℕ) → slice_get (text_of_cells work.old.active) 0 ≡ Some c →
         kind_of c ≤ 1 → 0 < most → 0 < result }
     ensures shorter { length work.new.active + result ≡ length work.old.active }
-    ensures plain { IsPlainFrom hints.new.plain_from work.new.neutral }
+    ensures no_comma_from { HasNoCommaFrom hints.new.no_comma_from work.new.neutral }
     ensures runs { hints.new.long_runs ≡ hints.old.long_runs }
     ensures keeps { KeepsRoom work.old work.new }
 {
     let reach = most.min(u64::from(work.active_len()));
     // A number that is known makes a shorter loop.
-    if reach >= FEW {
-        add_run_within(work, FEW as u32, hints)
+    if reach >= MOVED_ONE_BY_ONE {
+        add_run_within(work, MOVED_ONE_BY_ONE as u32, hints)
     } else {
         add_run_within(work, reach as u32, hints)
     }
@@ -225,21 +235,21 @@ fn add_run(work: &mut Work, most: u64, hints: &mut RunHints) -> u64
 fn add_run_within(work: &mut Work, reach: u32, hints: &mut RunHints) -> u64
     requires opened { (place : ℕ) × IsLastCall work.old.neutral place }
     requires within { reach ≤ length work.old.active }
-    requires plain { IsPlainFrom hints.old.plain_from work.old.neutral }
+    requires no_comma_from { HasNoCommaFrom hints.old.no_comma_from work.old.neutral }
     requires sound { IsSound work.old }
     ensures passes { Advances result work.old work.new }
     ensures few { result ≤ reach }
     ensures some { (c : ℕ) → slice_get (text_of_cells work.old.active) 0 ≡ Some c →
         kind_of c ≤ 1 → 0 < reach → 0 < result }
     ensures shorter { length work.new.active + result ≡ length work.old.active }
-    ensures plain { IsPlainFrom hints.new.plain_from work.new.neutral }
+    ensures no_comma_from { HasNoCommaFrom hints.new.no_comma_from work.new.neutral }
     ensures runs { hints.new.long_runs ≡ hints.old.long_runs }
     ensures keeps { KeepsRoom work.old work.new }
 {
     let before = work.neutral_len();
     let (count, last) = work.run_to_neutral(reach, KINDS);
     if last > 0 {
-        hints.plain_from = before + last;
+        hints.no_comma_from = before + last;
     }
     u64::from(count)
 }
@@ -253,7 +263,7 @@ fn add_long_run(work: &mut Work, most: u64) -> u64
         ((slice_get (text_of_cells work.old.active) 0 ≡ Some c) × IsOrdinary c) }
     requires sound { IsSound work.old }
     ensures passes { SomeSteps result most work.old work.new }
-    ensures plain { KeepsPlain work.old work.new }
+    ensures no_comma_from { KeepsNoComma work.old work.new }
     ensures keeps { KeepsRoom work.old work.new }
 {
     let count = 1 + ordinary_characters(after_first(work, most));
@@ -270,7 +280,7 @@ fn delete_layout(work: &mut Work, most: u64) -> u64
         ((slice_get (text_of_cells work.old.active) 0 ≡ Some c) × IsLayout c) }
     requires sound { IsSound work.old }
     ensures passes { SomeSteps result most work.old work.new }
-    ensures plain { KeepsPlain work.old work.new }
+    ensures no_comma_from { KeepsNoComma work.old work.new }
     ensures keeps { KeepsRoom work.old work.new }
 {
     let count = 1 + layout_characters(after_first(work, most));
@@ -302,7 +312,7 @@ fn protect(work: &mut Work)
     requires sound { IsSound work.old }
     requires first { slice_get (text_of_cells work.old.active) 0 ≡ Some 40 }
     ensures scans { Scans work.old work.new (used work.old) }
-    ensures plain { KeepsPlain work.old work.new }
+    ensures no_comma_from { KeepsNoComma work.old work.new }
     ensures no_larger { used work.new ≤ used work.old }
     ensures shorter { length work.new.active < length work.old.active }
     ensures keeps { KeepsRoom work.old work.new }
@@ -326,10 +336,10 @@ fn begin_call(work: &mut Work, characters: u32, mode: Mode, most: u64, hints: &m
     requires some { 0 < most }
     requires one { 0 < characters }
     requires first { Opens mode characters (text_of_cells work.old.active) }
-    requires plain { IsPlainFrom hints.old.plain_from work.old.neutral }
+    requires no_comma_from { HasNoCommaFrom hints.old.no_comma_from work.old.neutral }
     requires sound { IsSound work.old }
     ensures passes { SomeSteps result most work.old work.new }
-    ensures plain { IsPlainFrom hints.new.plain_from work.new.neutral }
+    ensures no_comma_from { HasNoCommaFrom hints.new.no_comma_from work.new.neutral }
     ensures runs { hints.new.long_runs ≡ hints.old.long_runs }
     ensures keeps { KeepsRoom work.old work.new }
 {
@@ -345,7 +355,7 @@ fn add_number_sign(work: &mut Work)
     requires sound { IsSound work.old }
     requires first { Begins ScanningRule.NumberSign (text_of_cells work.old.active) }
     ensures scans { Scans work.old work.new (used work.old) }
-    ensures plain { KeepsPlain work.old work.new }
+    ensures no_comma_from { KeepsNoComma work.old work.new }
     ensures no_larger { used work.new ≤ used work.old }
     ensures shorter { length work.new.active < length work.old.active }
     ensures keeps { KeepsRoom work.old work.new }

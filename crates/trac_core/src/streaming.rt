@@ -11,7 +11,7 @@ use trac_forms::Work;
 use trac_space::Cell;
 
 // How many characters are put one by one.
-const FEW: usize = 16;
+const PUT_ONE_BY_ONE: usize = 16;
 
 /// How a text ended that was read.
 #[derive(Clone, Copy, Debug, PartialEq, Eq)]
@@ -85,7 +85,7 @@ fn put_characters<O: Sink>(text: &Characters<'_>, sink: &mut O) -> Result<(), Si
     ensures kept { O.lent sink.new ≡ O.lent sink.old }
     ensures counts { O.failure_count sink.new ≡ O.failure_count sink.old + failures_of result }
 {
-    if text.len() < FEW {
+    if text.len() < PUT_ONE_BY_ONE {
         put_each(text, sink)
     } else {
         sink.put_all(text)

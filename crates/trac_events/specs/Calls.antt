@@ -22,8 +22,8 @@ use Rattle.trac_core.specs.declared.rules.ScanningRule.TheVariants as row
 use Rattle.trac_events.specs.declared.before.Before.{Before}
 
 -- the cells behind the mark at a place
-abbrev pub behind_mark : List Cell → ℕ → List Cell
-behind_mark neutral mark = drop (mark + 1) neutral
+abbrev pub top_frame : List Cell → ℕ → List Cell
+top_frame neutral mark = drop (mark + 1) neutral
 
 -- argument k, from 0, of cells that comma marks part
 abbrev pub argument_of : List Cell → ℕ → List Cell

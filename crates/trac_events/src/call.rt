@@ -4,7 +4,7 @@ ghost use Rattle.std.specs.List.{position_or_len};
 ghost use Rattle.trac_language.specs.Function.{function_named};
 ghost use Rattle.trac_space.specs.Cells.{is_comma};
 ghost use Rattle.trac_space.specs.Texts.{text_of_cells};
-ghost use Rattle.trac_events.specs.Calls.{argument_of, behind_mark};
+ghost use Rattle.trac_events.specs.Calls.{argument_of, top_frame};
 ghost use Rattle.trac_events.specs.Changes.{pointer_of};
 
 use crate::change::pointer_of;
@@ -16,7 +16,7 @@ use trac_space::Cell;
 /// The cells behind the mark of an open call, which stands at this place of a neutral string: its arguments,
 /// with a comma mark between two. Those of a call around the innermost one end where the next mark stands.
 pub fn arguments_of(neutral: &[Cell], mark: usize) -> &[Cell]
-    ensures { result.now ≡ behind_mark neutral.now mark }
+    ensures { result.now ≡ top_frame neutral.now mark }
 {
     behind(neutral, mark)
 }

@@ -46,9 +46,9 @@ open-head cell k free is = false≢true (sym (ap is_open is) ∙ free)
 
 -- one form more
 pub index-next : (table : List Cell) (forms : List Form) (k s start : ℕ) → k < length forms → start ≡ start_of forms k → IsIndex table (take k forms) → k < quarter table → IsOpenFor table (hash (name_at forms k)) s → IsIndex (with_entry table s k start) (take (k + 1) forms)
-index-next table forms k s start within begins index roomy place =
+index-next table forms k s start within begins index overflow place =
     let front = index-front table forms k (omega (arith, within)) index in
-    let put = index-put table k k s (k + 1) (k + 1) (name_at forms) (name_at forms) (start_of forms) (start_of forms) front (omega arith) (λ e. absurd (omega (arith, e))) (omega (arith, roomy))
+    let put = index-put table k k s (k + 1) (k + 1) (name_at forms) (name_at forms) (start_of forms) (start_of forms) front (omega arith) (λ e. absurd (omega (arith, e))) (omega (arith, overflow))
     (λ j less there differs. (omega (arith, less, differs), refl, refl))
     (λ j less there other. (omega (arith, less), λ e. absurd (omega (arith, e, less))))
     (λ j less there differs is. open-head (cell_at table s) j place.1.free is)
@@ -75,7 +75,7 @@ index-cut table forms k within index =
     let front = index-front table forms (k + 1) (omega (arith, within)) index in
     let cut = index-buried table (k + 1) k (name_at forms) (start_of forms) front (omega arith) in
     front-index (buried table k) forms k (omega (arith, within))
-    (index-as (buried table k) (k + 1) k k k (name_at forms) (name_at forms) (start_of forms) (start_of forms) (omega (arith, cut.roomy)) (λ j less there. (omega (arith, less), there, refl, refl)) (λ j less there. (omega (arith, less, there), there)) cut)
+    (index-as (buried table k) (k + 1) k k k (name_at forms) (name_at forms) (start_of forms) (start_of forms) (omega (arith, cut.overflow)) (λ j less there. (omega (arith, less), there, refl, refl)) (λ j less there. (omega (arith, less, there), there)) cut)
 
 -- where forms begin once one is removed
 start-cells : (forms : List Form) (j : ℕ) → start_of forms j ≡ cells (take j forms)
@@ -110,7 +110,7 @@ module _ (forms : List Form) (k : ℕ) (within : k < length forms) where
   -- nothing has come forward yet
   pub index-gap : (table : List Cell) → IsIndexBut table (length forms) k (name_at forms) (start_of forms) → IsIndexBut table (length forms) k (names_now forms k k) (starts_now forms k k)
   index-gap table index =
-      index-as table (length forms) k (length forms) k (name_at forms) (names_now forms k k) (start_of forms) (starts_now forms k k) index.roomy
+      index-as table (length forms) k (length forms) k (name_at forms) (names_now forms k k) (start_of forms) (starts_now forms k k) index.overflow
       (λ j less there. (less, there, names j, starts j)) (λ j less there. (less, there)) index
     where
       names : (j : ℕ) → names_now forms k k j ≡ name_at forms j
@@ -148,7 +148,7 @@ module _ (forms : List Form) (k : ℕ) (within : k < length forms) where
       let b = if-below gap (gap + 1) (start_of (remove forms k) gap) (start_of forms gap) (omega arith) in
       omega (arith, b, cells_is, next-start table gap order inside index) in
       let reached = subst (λ t. IsReached table (hash t) s e.1.0) (sym name) entry.reached in
-      let put = index-put table (length forms) gap s (length forms) (gap + 1) (names_now forms k gap) (names_now forms k (gap + 1)) (starts_now forms k gap) (starts_now forms k (gap + 1)) index (omega (arith, inside)) (λ e. absurd (omega (arith, e))) index.roomy
+      let put = index-put table (length forms) gap s (length forms) (gap + 1) (names_now forms k gap) (names_now forms k (gap + 1)) (starts_now forms k gap) (starts_now forms k (gap + 1)) index (omega (arith, inside)) (λ e. absurd (omega (arith, e))) index.overflow
       (λ j less there differs. (less, same_name gap j there differs, same_start gap j there differs))
       (λ j less there other. (less, λ f. other (ap (λ i. cell_at table (home_place table i)) f ∙ entry.home)))
       (λ j less there differs is. there (head-same j (gap + 1) (sym is ∙ entry.held)))
@@ -170,7 +170,7 @@ module _ (forms : List Form) (k : ℕ) (within : k < length forms) where
   pub index-removed : (table : List Cell) (gap : ℕ) → gap + 1 ≡ length forms → IsIndexBut table (length forms) gap (names_now forms k gap) (starts_now forms k gap) → IsIndex table (remove forms k)
   index-removed table gap all index =
       let size = length-remove forms k within in
-      index-as table (length forms) gap (length (remove forms k)) (length (remove forms k)) (names_now forms k gap) (name_at (remove forms k)) (starts_now forms k gap) (start_of (remove forms k)) (omega (arith, size, index.roomy))
+      index-as table (length forms) gap (length (remove forms k)) (length (remove forms k)) (names_now forms k gap) (name_at (remove forms k)) (starts_now forms k gap) (start_of (remove forms k)) (omega (arith, size, index.overflow))
       (λ j less there. (
         omega (arith, size, less),
         λ e. absurd (omega (arith, e, all, size, less)),

@@ -20,7 +20,7 @@ pub use Rattle.trac_language.specs.Store.{IsStore, NoneNamed, cells, defined, fo
 pub use Rattle.trac_language.specs.Text.{Text}
 pub use Rattle.trac_language.specs.declared.item.Item.{Item}
 pub use Rattle.trac_space.specs.Cells.{IsNoCall, NoCall, bytes, seen}
-pub use Rattle.trac_space.specs.Lists.{Lists, claimed}
+pub use Rattle.trac_space.specs.Lists.{Lists, reserved}
 pub use Rattle.trac_space.specs.Runs.{number_in, turned, turned_by}
 pub use Rattle.trac_space.specs.Texts.{IsByte, byte_cell_at, character_of, flat_text, text_of_cells}
 pub use Rattle.trac_space.specs.declared.cell.Cell.{Cell}
@@ -30,7 +30,7 @@ pub use Rattle.trac_store.proofs.Finding.{bytes-flat, part-seen}
 pub use Rattle.trac_store.proofs.FlatLemmas.{Byte-character_of, character_of-Byte, count-le, flat_items_of, forms_in-flat, item_of-cell, length-flat, length-flat_form, length-new_form}
 pub use Rattle.trac_store.proofs.Gaps.{bytes-seen}
 pub use Rattle.trac_store.proofs.HeadCells.{number-at}
-pub use Rattle.trac_store.proofs.IndexSearch.{index-kept, index-pointer, index-replaced, claimed-kept}
+pub use Rattle.trac_store.proofs.IndexSearch.{index-kept, index-pointer, index-replaced, reserved-kept}
 pub use Rattle.trac_store.proofs.Items.{item-stored}
 pub use Rattle.trac_store.proofs.Places.{Stands, removed-lists, repointed, stands, start_of-set}
 pub use Rattle.trac_store.proofs.Searches.{begins-within, body_len, characters-agree, first-agrees, gaps-agree, last-agrees, texts-agree}

@@ -73,6 +73,6 @@ module _ (s : Lists) (k from to : ℕ) (whole : flat_forms (forms_in s.store) �
       omega (arith, has.fits, long, used-stored s whole)
 
   -- what its copy leaves
-  pub next-put : (spare : List Cell) (done : Bool) (t : Lists) → (done ≡ true → IsByte (get_or s.store from Comma)) → from < to → OnTrue done (t ≡ record s { neutral = s.neutral ++ get_or s.store from Comma ∷ []; spare = spare }) → OnTrue done (t ≡ record s { neutral = s.neutral ++ flat_text (next_text (shown s) k); spare = spare })
-  next-put spare false t byte less put = tt
-  next-put spare true t byte less put = put ∙ ap (λ cells. record s { neutral = s.neutral ++ cells; spare = spare }) (next-cell s.store from to body p order within are less (byte refl))
+  pub next-put : (index_area : List Cell) (done : Bool) (t : Lists) → (done ≡ true → IsByte (get_or s.store from Comma)) → from < to → OnTrue done (t ≡ record s { neutral = s.neutral ++ get_or s.store from Comma ∷ []; index_area = index_area }) → OnTrue done (t ≡ record s { neutral = s.neutral ++ flat_text (next_text (shown s) k); index_area = index_area })
+  next-put index_area false t byte less put = tt
+  next-put index_area true t byte less put = put ∙ ap (λ cells. record s { neutral = s.neutral ++ cells; index_area = index_area }) (next-cell s.store from to body p order within are less (byte refl))

@@ -78,7 +78,7 @@ marked-lists {s = s} {t = t} {count = count} {k = k} {at = at} {name = name} h n
           has = record {
             forms = record { whole = rw read refl; bounded = omega (arith, h.kept.has.forms.bounded, fewer, ap length h.kept.has.forms.whole) };
             count_is = rw read (omega (arith, h.kept.has.count_is, size));
-            index = rw read (index-pointer forms k mark s.spare h.kept.has.index);
+            index = rw read (index-pointer forms k mark s.index_area h.kept.has.index);
           };
           place = rw read (record { within = omega (arith, named.within, size); start_is = begins ∙ sym (start_of-set forms k form) });
         };
@@ -103,9 +103,9 @@ marked-from forms k start first now h within begins one before order =
         within = omega (arith, place.within, length-set forms k form);
         start_is = place.start_is ∙ sym (same_start (record (form_at forms k) { pointer = mark }) forms k now.number refl);
       };
-      plain = λ j less.
+      no_comma_from = λ j less.
           let other = get_or-set_other forms k j form (record { name = []; body = []; pointer = 0 }) (λ e. absurd (omega (arith, e, less, order))) in
-          ap is_marked other ∙ h.plain j (omega (arith, less, before));
+          ap is_marked other ∙ h.no_comma_from j (omega (arith, less, before));
     }
 
 -- the forms of the store then
@@ -127,8 +127,8 @@ unmarked-marks names (form ∷ forms) h few =
     go (is_among names form) (no-mark form.pointer small) more
   where
     go : (b : Bool) → is_marked form ≡ false → unmarked (with_marks names forms) ≡ without_all names forms → (if not (is_marked (marked_if b form)) then marked_if b form ∷ unmarked (with_marks names forms) else unmarked (with_marks names forms)) ≡ (if not b then form ∷ without_all names forms else without_all names forms)
-    go true plain more = more
-    go false plain more = rw plain (ap (λ fs. form ∷ fs) more)
+    go true no_comma_from more = more
+    go false no_comma_from more = rw no_comma_from (ap (λ fs. form ∷ fs) more)
 
 -- some of the forms, in their order
 NoneNamed-filter : (stays : Form → Bool) (other : Text) (forms : List Form) → NoneNamed other forms → NoneNamed other (filter stays forms)
@@ -156,7 +156,7 @@ cells-filter stays (form ∷ forms) = go (stays form) (cells-filter stays forms)
     go false more = omega (arith, length-cons form forms)
 
 -- the store once the marked forms are out of it
-module _ (s t u : Lists) (kept : t ≡ record s { spare = t.spare }) (gone : u ≡ record t { store = flat_forms (unmarked (forms_in t.store)) }) where
+module _ (s t u : Lists) (kept : t ≡ record s { index_area = t.index_area }) (gone : u ≡ record t { store = flat_forms (unmarked (forms_in t.store)) }) where
   pub unmarked-store : u.store ≡ flat_forms (unmarked (forms_in s.store))
   unmarked-store = ap (λ (w : Lists). w.store) gone ∙ ap (λ (w : Lists). flat_forms (unmarked (forms_in w.store))) kept
 
@@ -198,11 +198,11 @@ marked-first neutral from end n s t h le is marked =
     ap (with_marks _) read ∙ sym (marks-first name _ (forms_in s.store)) ∙ ap (λ ts. with_marks ts (forms_in s.store)) (sym (texts-split neutral from end n h le is))
 
 -- marks change the store and the spare list alone
-pub marked-alone : (old s t u : Lists) (cells : List Cell) → s ≡ record old { store = s.store; spare = s.spare } → t ≡ record s { spare = t.spare } → u ≡ record t { store = cells } → u ≡ record old { store = u.store; spare = u.spare }
+pub marked-alone : (old s t u : Lists) (cells : List Cell) → s ≡ record old { store = s.store; index_area = s.index_area } → t ≡ record s { index_area = t.index_area } → u ≡ record t { store = cells } → u ≡ record old { store = u.store; index_area = u.index_area }
 marked-alone old s t u cells before kept marked =
-    marked ∙ ap (λ (w : Lists). record w { store = cells }) kept ∙ ap (λ (w : Lists). record w { store = cells; spare = t.spare }) before
-    ∙ ap (λ l. record old { store = l; spare = t.spare }) (sym (ap (λ (w : Lists). w.store) marked))
-    ∙ ap (λ l. record old { store = u.store; spare = l }) (sym (ap (λ (w : Lists). w.spare) marked))
+    marked ∙ ap (λ (w : Lists). record w { store = cells }) kept ∙ ap (λ (w : Lists). record w { store = cells; index_area = t.index_area }) before
+    ∙ ap (λ l. record old { store = l; index_area = t.index_area }) (sym (ap (λ (w : Lists). w.store) marked))
+    ∙ ap (λ l. record old { store = u.store; index_area = l }) (sym (ap (λ (w : Lists). w.index_area) marked))
 
 -- marks take no cell
 length-marked : (b : Bool) (form : Form) → length (flat_form (marked_if b form)) ≡ length (flat_form form)

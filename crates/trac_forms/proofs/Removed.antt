@@ -11,7 +11,7 @@ none-marked s count last start h =
     let all : take (length forms) forms ≡ forms = take_all (length forms) forms (omega arith) in
     record {
       place = record { within = omega arith; start_is = sym (ap (λ fs. length (flat_forms fs)) all ∙ ap length h.forms.whole) };
-      plain = λ j less.
+      no_comma_from = λ j less.
           let f = stands forms s.store j (start_of forms j) h.forms.whole less refl in
           no-mark (form_at forms j).pointer (omega (arith, f.end, h.forms.bounded, pointer-within forms j h.sound.forms));
     }
@@ -28,7 +28,7 @@ formed s count last start h =
     }
 
 -- the forms of these names are marked, and then gone
-module _ {s t : Lists} {count last start : ℕ} (names : List Text) (h : IsStored s count last start) (marks : t ≡ record s { store = flat_forms (with_marks names (forms_in s.store)); spare = t.spare }) where
+module _ {s t : Lists} {count last start : ℕ} (names : List Text) (h : IsStored s count last start) (marks : t ≡ record s { store = flat_forms (with_marks names (forms_in s.store)); index_area = t.index_area }) where
   abbrev forms : List Form
   forms = forms_in s.store
 
@@ -50,18 +50,18 @@ module _ {s t : Lists} {count last start : ℕ} (names : List Text) (h : IsStore
   rest : unmarked (forms_in t.store) ≡ without_all names (forms_in s.store)
   rest = ap unmarked read ∙ unmarked-marks names forms h.sound.forms (omega (arith, ap length h.forms.whole, h.forms.bounded))
 
-  module _ (u : Lists) (gone : u ≡ record t { store = flat_forms (unmarked (forms_in t.store)); spare = u.spare }) where
-    removed : u ≡ record s { store = flat_forms (without_all names (forms_in s.store)); spare = u.spare }
+  module _ (u : Lists) (gone : u ≡ record t { store = flat_forms (unmarked (forms_in t.store)); index_area = u.index_area }) where
+    removed : u ≡ record s { store = flat_forms (without_all names (forms_in s.store)); index_area = u.index_area }
     removed =
-        gone ∙ ap (λ (w : Lists). record w { store = flat_forms (unmarked (forms_in t.store)); spare = u.spare }) marks
-        ∙ ap (λ fs. record s { store = flat_forms fs; spare = u.spare }) rest
+        gone ∙ ap (λ (w : Lists). record w { store = flat_forms (unmarked (forms_in t.store)); index_area = u.index_area }) marks
+        ∙ ap (λ fs. record s { store = flat_forms fs; index_area = u.index_area }) rest
 
     pub removed-shown : shown u ≡ record (shown s) { forms = without_all names (forms_in s.store) }
-    removed-shown = shown-restored u.spare s u (without_all names forms) removed
+    removed-shown = shown-restored u.index_area s u (without_all names forms) removed
 
-    pub removed-stored : (left : ℕ) → left ≡ length (unmarked (forms_in t.store)) → IsIndexed u.spare (unmarked (forms_in t.store)) → IsStored u left 0 0
+    pub removed-stored : (left : ℕ) → left ≡ length (unmarked (forms_in t.store)) → IsIndexed u.index_area (unmarked (forms_in t.store)) → IsStored u left 0 0
     removed-stored left counted index =
         let stays = λ (form : Form). not (is_among names form) in
         let fewer = cells-filter stays forms in
         let used = used-stored s h.forms.whole in
-        restored u.spare s u (without_all names forms) left 0 0 (subst (IsIndexed u.spare) rest index) h.sound (IsStore-filter stays forms h.sound.forms) (omega (arith, ap length h.forms.whole, fewer, used, h.sound.fits)) removed (counted ∙ ap length rest) (omega arith) refl
+        restored u.index_area s u (without_all names forms) left 0 0 (subst (IsIndexed u.index_area) rest index) h.sound (IsStore-filter stays forms h.sound.forms) (omega (arith, ap length h.forms.whole, fewer, used, h.sound.fits)) removed (counted ∙ ap length rest) (omega arith) refl

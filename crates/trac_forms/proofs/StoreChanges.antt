@@ -9,18 +9,18 @@ use Rattle.trac_space.specs.Lists as lists
 use Rattle.trac_forms.proofs.Strings.{used-stored, restored}
 
 -- a new form behind the others
-pub added : (s u : Lists) (form : Form) → flat_forms (forms_in s.store) ≡ s.store → u ≡ record s { store = s.store ++ flat_form form; spare = u.spare } → u ≡ record s { store = flat_forms (forms_in s.store ++ form ∷ []); spare = u.spare }
+pub added : (s u : Lists) (form : Form) → flat_forms (forms_in s.store) ≡ s.store → u ≡ record s { store = s.store ++ flat_form form; index_area = u.index_area } → u ≡ record s { store = flat_forms (forms_in s.store ++ form ∷ []); index_area = u.index_area }
 added s u form whole put =
-    put ∙ ap (λ cells. record s { store = cells ++ flat_form form; spare = u.spare }) (sym whole)
-    ∙ ap (λ cells. record s { store = cells; spare = u.spare }) (flat_map_more flat_form [] (forms_in s.store) form)
+    put ∙ ap (λ cells. record s { store = cells ++ flat_form form; index_area = u.index_area }) (sym whole)
+    ∙ ap (λ cells. record s { store = cells; index_area = u.index_area }) (flat_map_more flat_form [] (forms_in s.store) form)
 
 -- the forms are then those that there were, and it
-pub added-forms : (s u : Lists) (form : Form) → flat_forms (forms_in s.store) ≡ s.store → u ≡ record s { store = s.store ++ flat_form form; spare = u.spare } → forms_in u.store ≡ forms_in s.store ++ form ∷ []
+pub added-forms : (s u : Lists) (form : Form) → flat_forms (forms_in s.store) ≡ s.store → u ≡ record s { store = s.store ++ flat_form form; index_area = u.index_area } → forms_in u.store ≡ forms_in s.store ++ form ∷ []
 added-forms s u form whole put =
     ap (λ (w : Lists). forms_in w.store) (added s u form whole put) ∙ forms_in-flat (forms_in s.store ++ form ∷ [])
 
 -- before it is in the index, that is one of the forms before it
-pub added-indexed : (s u : Lists) (count last start : ℕ) (form : Form) (begins : ℕ) → IsStored s count last start → lists.used s + form_cells form ≤ s.room → begins ≡ length s.store → u ≡ record s { store = s.store ++ flat_form form; spare = u.spare } → IsKept s.spare u.spare → IsIndexedUpTo u count begins
+pub added-indexed : (s u : Lists) (count last start : ℕ) (form : Form) (begins : ℕ) → IsStored s count last start → lists.used s + form_cells form ≤ s.room → begins ≡ length s.store → u ≡ record s { store = s.store ++ flat_form form; index_area = u.index_area } → IsKept s.index_area u.index_area → IsIndexedUpTo u count begins
 added-indexed s u count last start form begins h need begin put kept =
     let forms = forms_in s.store in
     let all = forms ++ form ∷ [] in
@@ -38,11 +38,11 @@ added-indexed s u count last start form begins h need begin put kept =
         within = omega (arith, ap length read, length_push forms form, h.count_is);
         start_is = begin ∙ ap length (sym h.forms.whole) ∙ ap (λ fs. length (flat_forms fs)) (sym front) ∙ ap (λ fs. start_of fs count) (sym read);
       };
-      index = subst (IsIndexed u.spare) (sym (ap (take count) read ∙ front)) (index-kept s.spare u.spare forms kept h.index);
+      index = subst (IsIndexed u.index_area) (sym (ap (take count) read ∙ front)) (index-kept s.index_area u.index_area forms kept h.index);
     }
 
 -- with the index that the forms have then
-pub added-stored : (s u v : Lists) (count last start : ℕ) (form : Form) (begins : ℕ) → IsStored s count last start → form.pointer ≤ length form.body → lists.used s + form_cells form ≤ s.room → NoneNamed form.name (forms_in s.store) → begins ≡ length s.store → u ≡ record s { store = s.store ++ flat_form form; spare = u.spare } → IsIndexed v.spare (forms_in u.store) → v ≡ record u { spare = v.spare } → IsStored v (count + 1) count begins
+pub added-stored : (s u v : Lists) (count last start : ℕ) (form : Form) (begins : ℕ) → IsStored s count last start → form.pointer ≤ length form.body → lists.used s + form_cells form ≤ s.room → NoneNamed form.name (forms_in s.store) → begins ≡ length s.store → u ≡ record s { store = s.store ++ flat_form form; index_area = u.index_area } → IsIndexed v.index_area (forms_in u.store) → v ≡ record u { index_area = v.index_area } → IsStored v (count + 1) count begins
 added-stored s u v count last start form begins h inside need none begin put index kept =
     let forms = forms_in s.store in
     let all = forms ++ form ∷ [] in
@@ -54,7 +54,7 @@ added-stored s u v count last start form begins h inside need none begin put ind
     let first = take_at forms (form ∷ []) (length forms) refl in
     let place : begins ≡ start_of all (length forms) = begin ∙ sym long ∙ ap (λ fs. length (flat_forms fs)) (sym first) in
     let counted = h.count_is in
-    restored v.spare s v all (count + 1) count begins (subst (IsIndexed v.spare) (added-forms s u form h.forms.whole put) index) h.sound (IsStore-push forms form h.sound.forms none inside) room (kept ∙ ap (λ (w : Lists). record w { spare = v.spare }) is) (omega arith) (omega arith) (place ∙ ap (start_of all) (sym counted))
+    restored v.index_area s v all (count + 1) count begins (subst (IsIndexed v.index_area) (added-forms s u form h.forms.whole put) index) h.sound (IsStore-push forms form h.sound.forms none inside) room (kept ∙ ap (λ (w : Lists). record w { index_area = v.index_area }) is) (omega arith) (omega arith) (place ∙ ap (start_of all) (sym counted))
 
 -- the store is still as long as what stands before the gaps
 pub gapped-long : (s t : Lists) (from : ℕ) (gapped rest : List Cell) → from ≤ length s.store → t ≡ record s { store = take from s.store ++ gapped ++ rest } → from ≤ length t.store
@@ -62,7 +62,7 @@ gapped-long s t from gapped rest within is =
     omega (arith, ap (λ v. length v.store) is, length-append (take from s.store ++ gapped) rest, length-append (take from s.store) gapped, length-append gapped rest, length-append (take from s.store) (gapped ++ rest), length-take-le from s.store within)
 
 -- form k with gaps for a text: first its body is segmented, and then two of its heads are written
-pub segmented-stored : (s t u v w : Lists) (count last begins k start from to end a b ordinal : ℕ) → IsStored s count last begins → k < length (forms_in s.store) → start ≡ start_of (forms_in s.store) k → from ≡ start + 3 + length (form_at (forms_in s.store) k).name → to ≡ from + length (form_at (forms_in s.store) k).body → t ≡ record s { store = take from s.store ++ segmented_cells (part_text s.neutral a b) ordinal (slice_range s.store from to) ++ drop to s.store } → end ≡ from + length (segmented_cells (part_text s.neutral a b) ordinal (slice_range s.store from to)) → end ≤ to → u ≡ record t { store = set t.store (start + 1) (Head (end - from)) } → v ≡ record u { store = set u.store (start + 2) (Head 0) } → w ≡ record v { spare = w.spare } → length w.spare ≡ length v.spare → ((names : ℕ → Text) → (starts : ℕ → ℕ) → IsIndexBut v.spare count count names starts → IsIndexBut w.spare count count names (started k count (to - end) starts)) → (w ≡ record s { spare = w.spare; store = flat_forms (set (forms_in s.store) k (record (form_at (forms_in s.store) k) { body = segment (part_text s.neutral a b) ordinal (form_at (forms_in s.store) k).body; pointer = 0 })) }) × IsStored w count k start
+pub segmented-stored : (s t u v w : Lists) (count last begins k start from to end a b ordinal : ℕ) → IsStored s count last begins → k < length (forms_in s.store) → start ≡ start_of (forms_in s.store) k → from ≡ start + 3 + length (form_at (forms_in s.store) k).name → to ≡ from + length (form_at (forms_in s.store) k).body → t ≡ record s { store = take from s.store ++ segmented_cells (part_text s.neutral a b) ordinal (slice_range s.store from to) ++ drop to s.store } → end ≡ from + length (segmented_cells (part_text s.neutral a b) ordinal (slice_range s.store from to)) → end ≤ to → u ≡ record t { store = set t.store (start + 1) (Head (end - from)) } → v ≡ record u { store = set u.store (start + 2) (Head 0) } → w ≡ record v { index_area = w.index_area } → length w.index_area ≡ length v.index_area → ((names : ℕ → Text) → (starts : ℕ → ℕ) → IsIndexBut v.index_area count count names starts → IsIndexBut w.index_area count count names (started k count (to - end) starts)) → (w ≡ record s { index_area = w.index_area; store = flat_forms (set (forms_in s.store) k (record (form_at (forms_in s.store) k) { body = segment (part_text s.neutral a b) ordinal (form_at (forms_in s.store) k).body; pointer = 0 })) }) × IsStored w count k start
 segmented-stored s t u v w count last begins k start from to end a b ordinal h within start_is from_is to_is gaps end_is shorter first second same len index =
     let forms = forms_in s.store in
     let f = stands forms s.store k start h.forms.whole within start_is in
@@ -80,13 +80,13 @@ segmented-stored s t u v w count last begins k start from to end a b ordinal h w
     let fewer : form_cells new ≤ form_cells form = omega (arith, shorter, to_is) in
     let less = cells-set forms k new within fewer in
     let used = used-stored s h.forms.whole in
-    let is_all = same ∙ ap (λ (l : Lists). record l { spare = w.spare }) is in
-    let was : v.spare ≡ s.spare = ap (λ (l : Lists). l.spare) is in
+    let is_all = same ∙ ap (λ (l : Lists). record l { index_area = w.index_area }) is in
+    let was : v.index_area ≡ s.index_area = ap (λ (l : Lists). l.index_area) is in
     let counted = h.count_is in
-    let table : IsIndexed w.spare (set forms k new) = λ some.
-    index-set forms k new within refl (to - end) (omega (arith, shorter, to_is, size)) w.spare count counted
-    (index (name_at forms) (start_of forms) (subst (λ l. IsIndexBut l count count (name_at forms) (start_of forms)) (sym was) (subst (λ n. IsIndexBut s.spare n n (name_at forms) (start_of forms)) (sym counted) (h.index (omega (arith, some, len, ap length was)))))) in
-    (is_all, restored w.spare s w (set forms k new) count k start table h.sound (IsStore-set forms k new refl (omega arith) h.sound.forms) (omega (arith, ap length h.forms.whole, h.sound.fits)) is_all (omega (arith, h.count_is, length-set forms k new)) (omega (arith, h.count_is, within)) (start_is ∙ sym (start_of-set forms k new)))
+    let table : IsIndexed w.index_area (set forms k new) = λ some.
+    index-set forms k new within refl (to - end) (omega (arith, shorter, to_is, size)) w.index_area count counted
+    (index (name_at forms) (start_of forms) (subst (λ l. IsIndexBut l count count (name_at forms) (start_of forms)) (sym was) (subst (λ n. IsIndexBut s.index_area n n (name_at forms) (start_of forms)) (sym counted) (h.index (omega (arith, some, len, ap length was)))))) in
+    (is_all, restored w.index_area s w (set forms k new) count k start table h.sound (IsStore-set forms k new refl (omega arith) h.sound.forms) (omega (arith, ap length h.forms.whole, h.sound.fits)) is_all (omega (arith, h.count_is, length-set forms k new)) (omega (arith, h.count_is, within)) (start_is ∙ sym (start_of-set forms k new)))
 
 -- a part of neutral that is written over the store leaves it as long as it was
 pub written-long : (s t : Lists) (at a b : ℕ) → b ≤ length s.neutral → at + (b - a) ≤ length s.store → t ≡ record s { store = take at s.store ++ slice_range s.neutral a b ++ drop (at + (b - a)) s.store } → length t.store ≡ length s.store
@@ -111,4 +111,4 @@ rewritten-stored s t u v count last begins k start body a b h within start_is fr
     let less = cells-set forms k new within (omega (arith, size, same)) in
     let used = used-stored s h.forms.whole in
     let long : length (flat_form new) ≡ length (flat_form form) = omega (arith, size, same, length-flat_form new, length-flat_form form) in
-    (is, restored s.spare s v (set forms k new) count k start (index-replaced forms k new s.spare refl long h.index) h.sound (IsStore-set forms k new refl (omega arith) h.sound.forms) (omega (arith, less, ap length h.forms.whole, h.sound.fits)) is (omega (arith, h.count_is, length-set forms k new)) (omega (arith, h.count_is, within)) (start_is ∙ sym (start_of-set forms k new)))
+    (is, restored s.index_area s v (set forms k new) count k start (index-replaced forms k new s.index_area refl long h.index) h.sound (IsStore-set forms k new refl (omega arith) h.sound.forms) (omega (arith, less, ap length h.forms.whole, h.sound.fits)) is (omega (arith, h.count_is, length-set forms k new)) (omega (arith, h.count_is, within)) (start_is ∙ sym (start_of-set forms k new)))

@@ -6,7 +6,7 @@ ghost use Rattle.std.specs.Prelude.{MatchOption};
 ghost use Rattle.std.specs.Bool.{OnTrue, OnFalse};
 ghost use Rattle.trac_space.specs.declared.cell.Cell.TheVariants.{Comma};
 ghost use Rattle.trac_space.specs.Cells.{NoComma};
-ghost use Rattle.trac_space.specs.Lists.{used as cells_used, claimed};
+ghost use Rattle.trac_space.specs.Lists.{used as cells_used, reserved};
 ghost use Rattle.trac_space.specs.Texts.{flat_text, IsByte};
 ghost use Rattle.trac_forms.specs.Contents.{used, IsSound, form_place, form_at, pointer_at};
 ghost use Rattle.trac_store.specs.Loading.{called_part};
@@ -25,12 +25,18 @@ impl<'a> Work<'a> {
     /// Copies the form's body from its pointer on to the front of active, each gap k replaced by argument k:
     /// the k-th, from 1, of the texts between the comma marks of neutral from place `first` up to `end`, or
     /// nothing if there is no such text. Gives how many characters these are. No comma mark stands in neutral
-    /// from place `plain` up to `end`. None, with nothing changed, if the copy doesn't fit.
+    /// from place `no_comma_from` up to `end`. None, with nothing changed, if the copy doesn't fit.
     #[inline(always)]
-    pub fn load_filled(&mut self, form: FormId, first: u32, end: u32, plain: u32) -> Option<u32>
+    pub fn load_filled(
+        &mut self,
+        form: FormId,
+        first: u32,
+        end: u32,
+        no_comma_from: u32,
+    ) -> Option<u32>
         requires known { form_place form < length self.old.forms }
         requires arguments { AreParted self.old.neutral first end }
-        requires plain { NoComma (slice_range self.old.neutral plain end) }
+        requires no_comma_from { NoComma (slice_range self.old.neutral no_comma_from end) }
         ensures loaded { let text = filled_body self.old (form_place form) first end in
             MatchOption result
             ((self.new ≡ self.old) × (self.old.room < used self.old + length text))
@@ -43,7 +49,7 @@ impl<'a> Work<'a> {
             from: first,
             to: end,
         };
-        fill_items(&mut self.space, items, texts, plain)
+        fill_items(&mut self.space, items, texts, no_comma_from)
     }
 
     // The part of the store that a call of the form copies: its body from its pointer on.
@@ -119,7 +125,7 @@ fn put_character(space: &mut Space, place: u32) -> bool
     ensures put { let cell = slice_index_or space.old.store place Comma in
         IsTrue result ↔ (IsByte cell × (cells_used space.old < space.old.room)) }
     ensures last { let cell = slice_index_or space.old.store place Comma in
-        OnTrue result (space.new ≡ record (claimed 1 space.old) {
+        OnTrue result (space.new ≡ record (reserved 1 space.old) {
           neutral = space.old.neutral ++ cell ∷ [];
         }) }
     ensures left { OnFalse result (space.new ≡ space.old) }

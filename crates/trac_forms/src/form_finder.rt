@@ -130,8 +130,8 @@ impl<'s, 'a> FormFinder<'s, 'a> {
         ensures { IsAnswer self.now.forms (text_of_cells (map seen name.now)) result }
     {
         let forms = self.cells();
-        if self.space.spare_len() > 0 {
-            let indexed = IndexedForms::of(&forms, self.space.spare_cells());
+        if self.space.index_area_len() > 0 {
+            let indexed = IndexedForms::of(&forms, self.space.index_area_cells());
             return indexed.look_up(name, search_cost);
         }
         let count = self.count;

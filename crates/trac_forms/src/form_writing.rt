@@ -17,17 +17,17 @@ use trac_space::{Cell, Part, Space};
 pub(crate) fn store_form(space: &mut Space, name: Part, text: Part)
     requires parts { AreNameAndText space.old.neutral name text }
     requires room { lists.used space.old + cells_for name text ≤ space.old.room }
-    ensures kept { IsKept space.old.spare space.new.spare }
+    ensures kept { IsKept space.old.index_area space.new.index_area }
     ensures stored { let form = new_form space.old.neutral name.from name.to text.from text.to in
         space.new ≡ record space.old {
           store = space.old.store ++ flat_form form;
-          spare = space.new.spare;
+          index_area = space.new.index_area;
         } }
 {
     // The lists fit in the block.
     prove!(space.used() <= space.room());
     let need = 3 + (name.to - name.from) + (text.to - text.from);
-    space.claim(need);
+    space.reserve(need);
     let start = space.store_len();
     space.open_store(need);
     write_form(space, start, name, text);
@@ -60,17 +60,17 @@ pub(crate) fn store_given<B: Body>(
 )
     requires len { len ≡ length (B.items body.old) }
     requires room { lists.used space.old + (3 + length name.now + len) ≤ space.old.room }
-    ensures kept { IsKept space.old.spare space.new.spare }
+    ensures kept { IsKept space.old.index_area space.new.index_area }
     ensures stored { let form = given name.now (B.items body.old) pointer in
         space.new ≡ record space.old {
           store = space.old.store ++ flat_form form;
-          spare = space.new.spare;
+          index_area = space.new.index_area;
         } }
 {
     // The lists fit in the block.
     prove!(space.used() <= space.room());
     let need = 3 + name.len() as u32 + len;
-    space.claim(need);
+    space.reserve(need);
     let start = space.store_len();
     space.open_store(need);
     write_given(space, start, name, body, len, pointer);

@@ -19,30 +19,30 @@ use trac_store::{FIRST_FORM, Located, end_of, hash, heads_of, number, open_slot}
 // Enters a form into the table, in this slot.
 #[inline]
 fn put_entry(space: &mut Space, slot: u32, form: Located)
-    requires slot { slot < slots space.old.spare }
-    requires place { form.number < quarter space.old.spare }
+    requires slot { slot < slots space.old.index_area }
+    requires place { form.number < quarter space.old.index_area }
     ensures { space.new ≡ record space.old {
-      spare = with_entry space.old.spare slot form.number form.start;
+      index_area = with_entry space.old.index_area slot form.number form.start;
     } }
 {
-    let quarter = space.spare_len() / 4;
-    space.set_spare_at(slot, Cell::Head(form.number));
-    space.set_spare_at(2 * quarter + form.number, Cell::Head(form.start));
-    space.set_spare_at(3 * quarter + form.number, Cell::Head(slot));
+    let quarter = space.index_area_len() / 4;
+    space.set_index_area_at(slot, Cell::Head(form.number));
+    space.set_index_area_at(2 * quarter + form.number, Cell::Head(form.start));
+    space.set_index_area_at(3 * quarter + form.number, Cell::Head(slot));
 }
 
 // Enters a form into the table, whose name has the hash `first`. False, with nothing changed, if no slot
 // near is open.
 fn add(space: &mut Space, first: usize, form: Located) -> bool
     requires bounded { first < 2 ^ 32 }
-    requires place { form.number < quarter space.old.spare }
-    ensures done { OnTrue result ((s : ℕ) × IsOpenFor space.old.spare first s
+    requires place { form.number < quarter space.old.index_area }
+    ensures done { OnTrue result ((s : ℕ) × IsOpenFor space.old.index_area first s
         × (space.new ≡ record space.old {
-          spare = with_entry space.old.spare s form.number form.start;
+          index_area = with_entry space.old.index_area s form.number form.start;
         })) }
     ensures full { OnFalse result (space.new ≡ space.old) }
 {
-    match open_slot(space.spare_cells(), first) {
+    match open_slot(space.index_area_cells(), first) {
         None => false,
         Some(slot) => {
             put_entry(space, slot, form);
@@ -57,18 +57,18 @@ fn add(space: &mut Space, first: usize, form: Located) -> bool
 fn index_form(space: &mut Space, form: Located)
     requires state { IsIndexedUpTo space.old form.number form.start }
     requires some { form.number < length (forms_in space.old.store) }
-    ensures same { space.new ≡ record space.old { spare = space.new.spare } }
-    ensures index { IsIndexed space.new.spare (take (form.number + 1) (forms_in space.old.store)) }
+    ensures same { space.new ≡ record space.old { index_area = space.new.index_area } }
+    ensures index { IsIndexed space.new.index_area (take (form.number + 1) (forms_in space.old.store)) }
 {
-    if space.spare_len() == 0 {
+    if space.index_area_len() == 0 {
         return;
     }
     let heads = heads_of(space, form);
     let from = form.start + 3;
     let to = from + heads.name;
     let first = hash(space.store_part(from, to));
-    if form.number >= space.spare_len() / 4 || !add(space, first, form) {
-        space.drop_spare();
+    if form.number >= space.index_area_len() / 4 || !add(space, first, form) {
+        space.drop_index_area();
     }
 }
 
@@ -78,10 +78,10 @@ fn index_form(space: &mut Space, form: Located)
 pub(crate) fn index_last(space: &mut Space, form: Located)
     requires state { IsIndexedUpTo space.old form.number form.start }
     requires last { form.number + 1 ≡ length (forms_in space.old.store) }
-    ensures same { space.new ≡ record space.old { spare = space.new.spare } }
-    ensures index { IsIndexed space.new.spare (forms_in space.old.store) }
+    ensures same { space.new ≡ record space.old { index_area = space.new.index_area } }
+    ensures index { IsIndexed space.new.index_area (forms_in space.old.store) }
 {
-    if form.number >= space.spare_len() / 4 && space.spare_len() > 0 {
+    if form.number >= space.index_area_len() / 4 && space.index_area_len() > 0 {
         grow_index(space, form.number + 1);
     } else {
         index_form(space, form);
@@ -92,36 +92,36 @@ pub(crate) fn index_last(space: &mut Space, form: Located)
 #[inline(never)]
 fn grow_index(space: &mut Space, count: u32)
     requires { HoldsForms space.old count }
-    ensures same { space.new ≡ record space.old { spare = space.new.spare } }
-    ensures index { IsIndexed space.new.spare (forms_in space.old.store) }
+    ensures same { space.new ≡ record space.old { index_area = space.new.index_area } }
+    ensures index { IsIndexed space.new.index_area (forms_in space.old.store) }
 {
     if !index_fitting(space, count) {
-        space.drop_spare();
+        space.drop_index_area();
     }
 }
 
 // Frees the slot of form `k`: a search goes on past it, and a new form may take it.
 #[inline]
 fn bury(space: &mut Space, k: u32)
-    requires { HasHome space.old.spare k }
-    ensures { space.new ≡ record space.old { spare = buried space.old.spare k } }
+    requires { HasHome space.old.index_area k }
+    ensures { space.new ≡ record space.old { index_area = buried space.old.index_area k } }
 {
-    let quarter = space.spare_len() / 4;
-    let home = number(space.spare_cells()[(3 * quarter + k) as usize]);
-    space.set_spare_at(home, Cell::Comma);
+    let quarter = space.index_area_len() / 4;
+    let home = number(space.index_area_cells()[(3 * quarter + k) as usize]);
+    space.set_index_area_at(home, Cell::Comma);
 }
 
 // Renumbers form `k` in the table as form `k - 1`, which begins `cells` cells lower.
 #[inline]
 fn bring_forward(space: &mut Space, k: u32, cells: u32)
     requires some { 0 < k }
-    requires home { HasHome space.old.spare k }
-    requires cells { cells ≤ start_in space.old.spare k }
-    ensures { space.new ≡ record space.old { spare = forward space.old.spare k cells } }
+    requires home { HasHome space.old.index_area k }
+    requires cells { cells ≤ start_in space.old.index_area k }
+    ensures { space.new ≡ record space.old { index_area = forward space.old.index_area k cells } }
 {
-    let quarter = space.spare_len() / 4;
-    let home = number(space.spare_cells()[(3 * quarter + k) as usize]);
-    let start = number(space.spare_cells()[(2 * quarter + k) as usize]);
+    let quarter = space.index_area_len() / 4;
+    let home = number(space.index_area_cells()[(3 * quarter + k) as usize]);
+    let start = number(space.index_area_cells()[(2 * quarter + k) as usize]);
     let form = Located {
         number: k - 1,
         start: start - cells,
@@ -132,13 +132,13 @@ fn bring_forward(space: &mut Space, k: u32, cells: u32)
 // Notes in the table that form `k` begins `cells` cells lower.
 #[inline]
 fn start_earlier(space: &mut Space, k: u32, cells: u32)
-    requires place { k < quarter space.old.spare }
-    requires cells { cells ≤ start_in space.old.spare k }
-    ensures { space.new ≡ record space.old { spare = earlier space.old.spare k cells } }
+    requires place { k < quarter space.old.index_area }
+    requires cells { cells ≤ start_in space.old.index_area k }
+    ensures { space.new ≡ record space.old { index_area = earlier space.old.index_area k cells } }
 {
-    let place = 2 * (space.spare_len() / 4) + k;
-    let start = number(space.spare_cells()[place as usize]);
-    space.set_spare_at(place, Cell::Head(start - cells));
+    let place = 2 * (space.index_area_len() / 4) + k;
+    let start = number(space.index_area_cells()[place as usize]);
+    space.set_index_area_at(place, Cell::Head(start - cells));
 }
 
 // Removes a form from the index of `count` forms, if there is one, and renumbers those behind it.
@@ -146,10 +146,10 @@ fn start_earlier(space: &mut Space, k: u32, cells: u32)
 pub(crate) fn unindex(space: &mut Space, form: Located, count: u32)
     requires forms { HasForms space.old count }
     requires form { IsLocated (forms_in space.old.store) form.number form.start }
-    ensures same { space.new ≡ record space.old { spare = space.new.spare } }
-    ensures index { IsIndexed space.new.spare (remove (forms_in space.old.store) form.number) }
+    ensures same { space.new ≡ record space.old { index_area = space.new.index_area } }
+    ensures index { IsIndexed space.new.index_area (remove (forms_in space.old.store) form.number) }
 {
-    if space.spare_len() == 0 {
+    if space.index_area_len() == 0 {
         return;
     }
     let cells = end_of(space, form) - form.start;
@@ -162,17 +162,17 @@ pub(crate) fn unindex(space: &mut Space, form: Located, count: u32)
 // Notes in the index of `count` forms, if there is one, that the forms behind form `k` begin `cells` cells
 // lower.
 pub(crate) fn shift_starts(space: &mut Space, k: u32, count: u32, cells: u32)
-    requires { 0 < length space.old.spare → HasStartsFrom space.old.spare k count cells }
-    ensures same { space.new ≡ record space.old { spare = space.new.spare } }
-    ensures len { length space.new.spare ≡ length space.old.spare }
+    requires { 0 < length space.old.index_area → HasStartsFrom space.old.index_area k count cells }
+    ensures same { space.new ≡ record space.old { index_area = space.new.index_area } }
+    ensures len { length space.new.index_area ≡ length space.old.index_area }
     ensures index { (name : ℕ → Text) → (start : ℕ → ℕ) →
-        IsIndexBut space.old.spare count count name start →
-        IsIndexBut space.new.spare count count name (started k count cells start) }
+        IsIndexBut space.old.index_area count count name start →
+        IsIndexBut space.new.index_area count count name (started k count cells start) }
 {
     if cells == 0 {
         return;
     }
-    if space.spare_len() == 0 {
+    if space.index_area_len() == 0 {
         return;
     }
     for next in k + 1..count {
@@ -182,13 +182,13 @@ pub(crate) fn shift_starts(space: &mut Space, k: u32, count: u32, cells: u32)
 
 // Empties the index of `count` forms, or drops it if it is far too large for them.
 pub(crate) fn clear_index(space: &mut Space, count: u32)
-    ensures same { space.new ≡ record space.old { spare = space.new.spare } }
-    ensures index { IsIndexed space.new.spare [] }
+    ensures same { space.new ≡ record space.old { index_area = space.new.index_area } }
+    ensures index { IsIndexed space.new.index_area [] }
 {
-    if space.spare_len() / 32 > count {
-        space.drop_spare();
+    if space.index_area_len() / 32 > count {
+        space.drop_index_area();
     } else {
-        space.blank_spare();
+        space.blank_index_area();
     }
 }
 
@@ -196,10 +196,10 @@ pub(crate) fn clear_index(space: &mut Space, count: u32)
 fn index_all(space: &mut Space, count: u32, cells: u32)
     requires forms { HoldsForms space.old count }
     requires room { lists.used space.old + cells ≤ space.old.room }
-    ensures same { space.new ≡ record space.old { spare = space.new.spare } }
-    ensures index { IsIndexed space.new.spare (forms_in space.old.store) }
+    ensures same { space.new ≡ record space.old { index_area = space.new.index_area } }
+    ensures index { IsIndexed space.new.index_area (forms_in space.old.store) }
 {
-    space.take_spare(cells);
+    space.take_index_area(cells);
     index_from(space, FIRST_FORM, count);
 }
 
@@ -207,10 +207,10 @@ fn index_all(space: &mut Space, count: u32, cells: u32)
 pub(crate) fn index_from(space: &mut Space, first: Located, count: u32)
     requires state { IsIndexedUpTo space.old first.number first.start }
     requires count_is { count ≡ length (forms_in space.old.store) }
-    ensures same { space.new ≡ record space.old { spare = space.new.spare } }
-    ensures index { IsIndexed space.new.spare (forms_in space.old.store) }
+    ensures same { space.new ≡ record space.old { index_area = space.new.index_area } }
+    ensures index { IsIndexed space.new.index_area (forms_in space.old.store) }
 {
-    if space.spare_len() == 0 {
+    if space.index_area_len() == 0 {
         return;
     }
     let mut start = first.start;
@@ -225,10 +225,10 @@ pub(crate) fn index_from(space: &mut Space, first: Located, count: u32)
 pub(crate) fn unindex_from(space: &mut Space, k: u32, count: u32)
     requires forms { HasForms space.old count }
     requires order { k ≤ count }
-    ensures same { space.new ≡ record space.old { spare = space.new.spare } }
-    ensures index { IsIndexed space.new.spare (take k (forms_in space.old.store)) }
+    ensures same { space.new ≡ record space.old { index_area = space.new.index_area } }
+    ensures index { IsIndexed space.new.index_area (take k (forms_in space.old.store)) }
 {
-    if space.spare_len() == 0 {
+    if space.index_area_len() == 0 {
         return;
     }
     let mut left = count;
@@ -263,8 +263,8 @@ fn index_cells(count: u32, most: u32) -> u32
 // if they aren't.
 fn index_fitting(space: &mut Space, count: u32) -> bool
     requires { HoldsForms space.old count }
-    ensures same { space.new ≡ record space.old { spare = space.new.spare } }
-    ensures index { IsTrue result → IsIndexed space.new.spare (forms_in space.old.store) }
+    ensures same { space.new ≡ record space.old { index_area = space.new.index_area } }
+    ensures index { IsTrue result → IsIndexed space.new.index_area (forms_in space.old.store) }
     ensures left { OnFalse result (space.new ≡ space.old) }
 {
     let most = space.free() / 2;
@@ -284,8 +284,8 @@ const INDEX_COST: u32 = 8;
 #[inline]
 pub(crate) fn keep_index(space: &mut Space, count: u32, search_cost: &mut u32)
     requires forms { HasForms space.old count }
-    ensures same { space.new ≡ record space.old { spare = space.new.spare } }
-    ensures index { IsIndexed space.new.spare (forms_in space.old.store) }
+    ensures same { space.new ≡ record space.old { index_area = space.new.index_area } }
+    ensures index { IsIndexed space.new.index_area (forms_in space.old.store) }
 {
     if count >= FORMS_FOR_INDEX && *search_cost / INDEX_COST > count {
         index_worthwhile(space, count, search_cost);
@@ -296,8 +296,8 @@ pub(crate) fn keep_index(space: &mut Space, count: u32, search_cost: &mut u32)
 #[inline(never)]
 fn index_worthwhile(space: &mut Space, count: u32, search_cost: &mut u32)
     requires forms { HasForms space.old count }
-    ensures same { space.new ≡ record space.old { spare = space.new.spare } }
-    ensures index { IsIndexed space.new.spare (forms_in space.old.store) }
+    ensures same { space.new ≡ record space.old { index_area = space.new.index_area } }
+    ensures index { IsIndexed space.new.index_area (forms_in space.old.store) }
 {
     if (*search_cost / INDEX_COST).saturating_sub(count) < space.active_len() / 256 {
         return;

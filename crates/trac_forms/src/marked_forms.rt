@@ -32,13 +32,13 @@ pub(crate) fn mark_all(
 ) -> Located
     requires formed { IsFormed space.old count last.number last.start }
     requires names { AreParted space.old.neutral names.from names.to }
-    requires plain { let forms = forms_in space.old.store in
+    requires no_comma_from { let forms = forms_in space.old.store in
         IsMarkedFrom forms (length forms) (length space.old.store) }
     ensures marked { let texts = texts_between space.old.neutral names.from names.to in
         let forms = with_marks texts (forms_in space.old.store) in
-        space.new ≡ record space.old { store = flat_forms forms; spare = space.new.spare } }
+        space.new ≡ record space.old { store = flat_forms forms; index_area = space.new.index_area } }
     ensures first { IsMarkedFrom (forms_in space.new.store) result.number result.start }
-    ensures index { IsIndexed space.new.spare (forms_in space.new.store) }
+    ensures index { IsIndexed space.new.index_area (forms_in space.new.store) }
 {
     let end = Located {
         number: count,
@@ -104,9 +104,9 @@ pub(crate) fn take_out_marked(space: &mut Space, first: Located, count: u32) -> 
     requires forms { HasForms space.old count }
     requires first { IsMarkedFrom (forms_in space.old.store) first.number first.start }
     ensures gone { let forms = unmarked (forms_in space.old.store) in
-        space.new ≡ record space.old { store = flat_forms forms; spare = space.new.spare } }
+        space.new ≡ record space.old { store = flat_forms forms; index_area = space.new.index_area } }
     ensures count { result ≡ length (unmarked (forms_in space.old.store)) }
-    ensures index { IsIndexed space.new.spare (unmarked (forms_in space.old.store)) }
+    ensures index { IsIndexed space.new.index_area (unmarked (forms_in space.old.store)) }
 {
     unindex_from(space, first.number, count);
     let count = remove_marked(space, first, count);

@@ -146,12 +146,12 @@ before_comma-none (cell ∷ cells) = go (is_comma cell) refl (before_comma-none 
     go false e rest = All-cons (λ cell. is_comma cell ≡ false) cell (take (before_comma cells) cells) e rest
 
 -- a cell of neutral that is no mark is a character
-byte-plain : (cell : Cell) → IsStringCell cell → is_call cell ≡ false → is_comma cell ≡ false → IsByte cell
-byte-plain (Byte c) s call comma = tt
-byte-plain (Call mode k) s call comma = absurd cc
-byte-plain Comma s call comma = absurd cc
-byte-plain (Gap k) s call comma = s
-byte-plain (Head k) s call comma = s
+byte-no_comma_from : (cell : Cell) → IsStringCell cell → is_call cell ≡ false → is_comma cell ≡ false → IsByte cell
+byte-no_comma_from (Byte c) s call comma = tt
+byte-no_comma_from (Call mode k) s call comma = absurd cc
+byte-no_comma_from Comma s call comma = absurd cc
+byte-no_comma_from (Gap k) s call comma = s
+byte-no_comma_from (Head k) s call comma = s
 
 string-range : (w : Contents) → IsSound w → (a b : ℕ) → All IsStringCell (slice_range w.neutral a b)
 string-range w sound a b = All-take IsStringCell (b - a) (drop a w.neutral) (All-drop IsStringCell a w.neutral sound.neutral)
@@ -175,10 +175,10 @@ taken-part w a are le =
     record {
       order = omega arith;
       within = omega arith;
-      bytes = λ k d within. byte-plain (get_or part k d) (strings k d within) (calls k d within) (commas k d within);
+      bytes = λ k d within. byte-no_comma_from (get_or part k d) (strings k d within) (calls k d within) (commas k d within);
     }
 
-pub taken-left : (w : Contents) (a b : Arguments) → AreArguments w a → a.from ≤ a.end → b.from ≡ a.from + before_comma (slice_range w.neutral a.from a.end) + 1 → b.end ≡ a.end → b.plain ≡ a.plain → AreArguments w b
+pub taken-left : (w : Contents) (a b : Arguments) → AreArguments w a → a.from ≤ a.end → b.from ≡ a.from + before_comma (slice_range w.neutral a.from a.end) + 1 → b.end ≡ a.end → b.no_comma_from ≡ a.no_comma_from → AreArguments w b
 taken-left w a b are le from_is end_is plain_is =
     let here = slice_range w.neutral a.from a.end in
     let n = before_comma here in
@@ -204,12 +204,12 @@ before_comma-all [] h = refl
 before_comma-all (cell ∷ cells) h = rw (h 0 (Byte 0) (omega arith), before_comma-all cells (λ k d within. h (suc k) d (omega arith))) refl
 
 -- the last argument, which begins where no comma mark follows, goes up to the end
-pub last-long : (w : Contents) (a : Arguments) → AreArguments w a → a.from ≤ a.end → a.plain ≤ a.from → a.end ≡ a.from + before_comma (slice_range w.neutral a.from a.end)
+pub last-long : (w : Contents) (a : Arguments) → AreArguments w a → a.from ≤ a.end → a.no_comma_from ≤ a.from → a.end ≡ a.from + before_comma (slice_range w.neutral a.from a.end)
 last-long w a are le late =
-    let n = a.from - a.plain in
-    let here : a.plain + n ≡ a.from = omega arith in
+    let n = a.from - a.no_comma_from in
+    let here : a.no_comma_from + n ≡ a.from = omega arith in
     let rest = subst (λ k. NoComma (slice_range w.neutral k a.end)) here
-    (subst NoComma (drop-range w.neutral a.plain n a.end (omega arith)) (All-drop (λ cell. is_comma cell ≡ false) n (slice_range w.neutral a.plain a.end) are.no_comma)) in
+    (subst NoComma (drop-range w.neutral a.no_comma_from n a.end (omega arith)) (All-drop (λ cell. is_comma cell ≡ false) n (slice_range w.neutral a.no_comma_from a.end) are.no_comma)) in
     let long = length-between w.neutral a.from a.end are.within in
     let whole = before_comma-all (slice_range w.neutral a.from a.end) rest in
     omega arith

@@ -66,7 +66,7 @@ parts-left : (w : Contents) (fuel : ℕ) (a : Arguments) → AreArguments w a �
 parts-left w zero a are few = parts-past w a (omega (arith, few))
 parts-left w (suc fuel) a are few = ⊎_elim (parts-past w a) (λ le.
     let n = before_comma (slice_range w.neutral a.from a.end) in
-    let b : Arguments = record { from = a.from + n + 1; end = a.end; plain = a.plain; scanned = a.scanned } in
+    let b : Arguments = record { from = a.from + n + 1; end = a.end; no_comma_from = a.no_comma_from; scanned = a.scanned } in
     let first = parts-first w.neutral a.from a.end n le are.within refl in
     let rest = taken-rest w a are le in
     let later = parts-left w fuel b (taken-left w a b are le refl refl refl) (omega (arith, few)) in (

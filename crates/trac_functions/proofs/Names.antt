@@ -62,7 +62,7 @@ pair-two (a ∷ []) d e long none = absurd (omega arith)
 pair-two (a ∷ b ∷ rest) d e long none = two-before a b rest (subst (λ l. before_comma l ≡ 0) (rest-of a b rest) none)
 
 pub none-named : (cells : List Cell) (ends : Bool) → 2 ≤ length cells → ends ≡ false → (before_comma (take (length cells - 2) (drop 2 cells)) ≡ 0 → IsTrue ends) → None ≡ function_named (text_of_cells (take (before_comma cells) cells))
-none-named [] ends long fails claim = absurd (omega arith)
-none-named (a ∷ []) ends long fails claim = absurd (omega arith)
-none-named (a ∷ b ∷ rest) ends long fails claim =
-    sym (none-longer a b rest (λ e. let h = claim (subst (λ l. before_comma l ≡ 0) (sym (rest-of a b rest)) e) in absurd cc))
+none-named [] ends long fails reserve = absurd (omega arith)
+none-named (a ∷ []) ends long fails reserve = absurd (omega arith)
+none-named (a ∷ b ∷ rest) ends long fails reserve =
+    sym (none-longer a b rest (λ e. let h = reserve (subst (λ l. before_comma l ≡ 0) (sym (rest-of a b rest)) e) in absurd cc))

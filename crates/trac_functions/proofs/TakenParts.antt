@@ -16,8 +16,8 @@ use Rattle.trac_functions.proofs.TakenItems.{first_characters-none, first-charac
 -- a call of this function takes a part of the form that its first argument names
 module _ (f : Function) (args : List Text) (name : Text) (part : Form → Option Part) (z : Text) (scanned : Bool) (means : (w : World) → meaning_of f args w ≡ on_form (form_named name w.forms) (λ form. take_part name (part form) z w) w) (built_is : (w : World) → built (Some f) args w ≡ value_length (meaning_of f args w)) where
   -- what the form at a place gives
-  makes-part : (old new : Contents) (k : ℕ) (made : CallResult) → IsSound old → IsNamedAt old.forms name k → TakesPart (part (form_at old.forms k)) z k old made new → Makes f args scanned old made new
-  makes-part old new k made sound at takes = go (part (form_at old.forms k)) refl made takes
+  makes-part : (old new : Contents) (k : ℕ) (call_result : CallResult) → IsSound old → IsNamedAt old.forms name k → TakesPart (part (form_at old.forms k)) z k old call_result new → Makes f args scanned old call_result new
+  makes-part old new k call_result sound at takes = go (part (form_at old.forms k)) refl call_result takes
     where
       means-at : (o : Option Part) → part (form_at old.forms k) ≡ o → (meta : ℕ) (input : Input) → meaning_of f args (world old.forms meta input) ≡ take_part name o z (world old.forms meta input)
       means-at o e meta input =
@@ -25,7 +25,7 @@ module _ (f : Function) (args : List Text) (name : Text) (part : Form → Option
           ∙ ap (λ o. on_form o (λ form. take_part name (part form) z (world old.forms meta input)) (world old.forms meta input)) (form_named-at name old.forms k sound.forms at)
           ∙ ap (λ o. take_part name o z (world old.forms meta input)) e
 
-      go : (o : Option Part) → part (form_at old.forms k) ≡ o → (made : CallResult) → TakesPart o z k old made new → Makes f args scanned old made new
+      go : (o : Option Part) → part (form_at old.forms k) ≡ o → (call_result : CallResult) → TakesPart o z k old call_result new → Makes f args scanned old call_result new
       go o e Full takes = λ meta input. let size = built_is (world old.forms meta input) ∙ ap value_length (means-at o e meta input) ∙ long o (world old.forms meta input) in omega arith
         where
           long : (o : Option Part) (w : World) → value_length (take_part name o z w) ≡ length (part_value o z)
@@ -65,18 +65,18 @@ module _ (f : Function) (args : List Text) (name : Text) (part : Form → Option
       go (Some p) e (Over fate) takes = absurd takes
 
 -- what a call makes that takes a part of a form, by the place at which the code found the form
-pub makes-found : (f : Function) (part : List Text → Form → Option Part) (other : ℕ) (old found new : Contents) (a : Arguments) (k : ℕ) (made : CallResult) (name : Text) (z : CellPart) → ((title : Text) (w : World) → meaning_of f (title ∷ texts old a) w ≡ on_form (form_named (argument (texts old a) 0) w.forms) (λ form. take_part (argument (texts old a) 0) (part (texts old a) form) (argument (texts old a) other) w) w) → ((title : Text) (w : World) → built (Some f) (title ∷ texts old a) w ≡ value_length (meaning_of f (title ∷ texts old a) w)) → AreArguments old a → found ≡ old → IsNamedAt old.forms name k → name ≡ argument (texts old a) 0 → TakesOrDefault (part (texts old a)) k z found made new → part_text old.neutral z.from z.to ≡ argument (texts old a) other → Performs f old a made new
-makes-found f part other old found new a k made name z means built_is are same at is takes text = λ title.
-    let here = subst (λ (w : Contents). TakesOrDefault (part (texts old a)) k z w made new) same takes in
-    makes-part f (title ∷ texts old a) (argument (texts old a) 0) (part (texts old a)) (argument (texts old a) other) a.scanned (means title) (built_is title) old new k made are.sound
-    (subst (λ n. IsNamedAt old.forms n k) is at) (subst (λ t. TakesPart (part (texts old a) (form_at old.forms k)) t k old made new) text here)
+pub makes-found : (f : Function) (part : List Text → Form → Option Part) (other : ℕ) (old found new : Contents) (a : Arguments) (k : ℕ) (call_result : CallResult) (name : Text) (z : CellPart) → ((title : Text) (w : World) → meaning_of f (title ∷ texts old a) w ≡ on_form (form_named (argument (texts old a) 0) w.forms) (λ form. take_part (argument (texts old a) 0) (part (texts old a) form) (argument (texts old a) other) w) w) → ((title : Text) (w : World) → built (Some f) (title ∷ texts old a) w ≡ value_length (meaning_of f (title ∷ texts old a) w)) → AreArguments old a → found ≡ old → IsNamedAt old.forms name k → name ≡ argument (texts old a) 0 → TakesOrDefault (part (texts old a)) k z found call_result new → part_text old.neutral z.from z.to ≡ argument (texts old a) other → Performs f old a call_result new
+makes-found f part other old found new a k call_result name z means built_is are same at is takes text = λ title.
+    let here = subst (λ (w : Contents). TakesOrDefault (part (texts old a)) k z w call_result new) same takes in
+    makes-part f (title ∷ texts old a) (argument (texts old a) 0) (part (texts old a)) (argument (texts old a) other) a.scanned (means title) (built_is title) old new k call_result are.sound
+    (subst (λ n. IsNamedAt old.forms n k) is at) (subst (λ t. TakesPart (part (texts old a) (form_at old.forms k)) t k old call_result new) text here)
 
 -- a part that is there is taken, and else the text of z
-pub takes-some : {part : Part} {o : Option Part} (z : CellPart) (k : ℕ) (old : Contents) (made : CallResult) (new : Contents) → Some part ≡ o → ((z : Text) → TakesPart (Some part) z k old made new) → TakesPart o (part_text old.neutral z.from z.to) k old made new
-takes-some z k old made new e takes = subst (λ o. TakesPart o (part_text old.neutral z.from z.to) k old made new) e (takes (part_text old.neutral z.from z.to))
+pub takes-some : {part : Part} {o : Option Part} (z : CellPart) (k : ℕ) (old : Contents) (call_result : CallResult) (new : Contents) → Some part ≡ o → ((z : Text) → TakesPart (Some part) z k old call_result new) → TakesPart o (part_text old.neutral z.from z.to) k old call_result new
+takes-some z k old call_result new e takes = subst (λ o. TakesPart o (part_text old.neutral z.from z.to) k old call_result new) e (takes (part_text old.neutral z.from z.to))
 
-pub takes-none : {o : Option Part} (z : CellPart) (k : ℕ) (old : Contents) (made : CallResult) (new : Contents) → o ≡ None → ((k : ℕ) → TakesPart None (part_text old.neutral z.from z.to) k old made new) → TakesPart o (part_text old.neutral z.from z.to) k old made new
-takes-none z k old made new e takes = subst (λ o. TakesPart o (part_text old.neutral z.from z.to) k old made new) (sym e) (takes k)
+pub takes-none : {o : Option Part} (z : CellPart) (k : ℕ) (old : Contents) (call_result : CallResult) (new : Contents) → o ≡ None → ((k : ℕ) → TakesPart None (part_text old.neutral z.from z.to) k old call_result new) → TakesPart o (part_text old.neutral z.from z.to) k old call_result new
+takes-none z k old call_result new e takes = subst (λ o. TakesPart o (part_text old.neutral z.from z.to) k old call_result new) (sym e) (takes k)
 
 -- ---- a form that is changed
 

@@ -20,14 +20,14 @@ use Rattle.trac_functions.specs.declared.arguments.CallResult.TheVariants.{Over}
 use Rattle.trac_functions.specs.Flat.{texts_of}
 
 -- a function that neither reads nor prints, nor changes the meta character, nor ends the run
-abbrev pub is_plain : Function → Bool
-is_plain ReadString = false
-is_plain ReadCharacter = false
-is_plain ChangeMeta = false
-is_plain PrintString = false
-is_plain PrintForm = false
-is_plain Halt = false
-is_plain _ = true
+abbrev pub is_self_contained : Function → Bool
+is_self_contained ReadString = false
+is_self_contained ReadCharacter = false
+is_self_contained ChangeMeta = false
+is_self_contained PrintString = false
+is_self_contained PrintForm = false
+is_self_contained Halt = false
+is_self_contained _ = true
 
 -- the arguments that are left to take: those that stand from `from` up to `end`, none if `from` is
 -- past `end`
@@ -36,13 +36,13 @@ texts_from neutral from end =
     if nat_le from end then texts_of (slice_range neutral from end) else []
 
 -- the arguments that are left are within the neutral string, no call mark stands among them, and no
--- comma mark from `arguments.plain` on
+-- comma mark from `arguments.no_comma_from` on
 pub record AreArguments (w : Contents) (arguments : Arguments) : Type 0 where
   pub sound : IsSound w
   pub order : arguments.from ≤ arguments.end + 1
   pub within : arguments.end ≤ length w.neutral
   pub no_call : NoCall (slice_range w.neutral arguments.from arguments.end)
-  pub no_comma : NoComma (slice_range w.neutral arguments.plain arguments.end)
+  pub no_comma : NoComma (slice_range w.neutral arguments.no_comma_from arguments.end)
 
 -- the room is as it was, and what is in it is sound
 pub record KeepsRoom (old new : Contents) : Type 0 where
@@ -129,14 +129,14 @@ Makes function args scanned old (Over fate) new = ⊥
 -- what a function without devices makes of a call whose arguments behind its name are those that
 -- are left: its value, or more than there is room for
 abbrev pub Performs : Function → Contents → Arguments → CallResult → Contents → Type 0
-Performs function old arguments made new =
-    (name : Text) → Makes function (name ∷ texts old arguments) arguments.scanned old made new
+Performs function old arguments call_result new =
+    (name : Text) → Makes function (name ∷ texts old arguments) arguments.scanned old call_result new
 
--- `made` is right for each call that has the value `value`, sends it to the active string or not, as
+-- `call_result` is right for each call that has the value `value`, sends it to the active string or not, as
 -- `goes` says, and changes no form
 abbrev pub MakesValue : Text → Bool → Contents → CallResult → Contents → Type 0
-MakesValue value goes old made new =
+MakesValue value goes old call_result new =
     (function : Function) (args : List Text) (forced scanned : Bool) →
     (forced || scanned) ≡ goes →
     Valued function args old.forms value forced old.forms →
-    Makes function args scanned old made new
+    Makes function args scanned old call_result new

@@ -42,8 +42,8 @@ TakesPart part z k old (Over fate) new = ⊥
 -- the value is the part that a call takes of form k, whose pointer is moved; if there is no such part, the
 -- value is the text of z, a part of the neutral string; or the value doesn't fit
 abbrev pub TakesOrDefault : (Form → Option Part) → ℕ → CellPart → Contents → CallResult → Contents → Type 0
-TakesOrDefault part k z old made new =
-    TakesPart (part (form_at old.forms k)) (part_text old.neutral z.from z.to) k old made new
+TakesOrDefault part k z old call_result new =
+    TakesPart (part (form_at old.forms k)) (part_text old.neutral z.from z.to) k old call_result new
 
 -- `place` is the first from `from` up to `to` that passes the test, or `to` if none does
 pub record IsFirstOr (test : ℕ → Bool) (from to place : ℕ) : Type 0 where

@@ -24,7 +24,7 @@ use trac_space::Part;
 
 // Up to this many names of `dd` are deleted one by one: to move a form that stays twice in the index
 // costs less than to put it in anew.
-const FEW: u32 = 2;
+const DELETED_ONE_BY_ONE: u32 = 2;
 
 /// `da`: all forms are removed (Mooers 1966).
 pub fn delete_all(work: &mut Work) -> CallResult
@@ -128,7 +128,7 @@ pub fn delete_definition(work: &mut Work, mut arguments: Arguments) -> CallResul
     ensures unmade { result ≡ CallResult.Full → work.new.forms ≡ work.old.forms }
     ensures keeps { KeepsRoom work.old work.new }
 {
-    for _name in 0..FEW {
+    for _name in 0..DELETED_ONE_BY_ONE {
         if arguments.is_empty() {
             return CallResult::AtEnd;
         }
@@ -156,7 +156,8 @@ pub fn call_form(work: &mut Work, mut arguments: Arguments) -> CallResult
     let Some(form) = next_form(work, &mut arguments) else {
         return CallResult::AtEnd;
     };
-    let Some(size) = work.load_filled(form, arguments.from, arguments.end, arguments.plain) else {
+    let Some(size) = work.load_filled(form, arguments.from, arguments.end, arguments.no_comma_from)
+    else {
         return CallResult::Full;
     };
     if scanned {

@@ -5,7 +5,7 @@ ghost use Rattle.std.specs.Prelude.{◌≡◌, ◌↔◌, ◌∷◌, [], IsSome,
 ghost use Rattle.trac_language.specs.Function.{function_named};
 ghost use Rattle.trac_space.specs.Texts.{character_of, text_of_cells};
 ghost use Rattle.trac_forms.specs.Arguments.{before_comma};
-ghost use Rattle.trac_functions.specs.Calls.{AreArguments, KeepsRoom, Performs, is_plain};
+ghost use Rattle.trac_functions.specs.Calls.{AreArguments, KeepsRoom, Performs, is_self_contained};
 ghost use Rattle.std.specs.Char.{to_ascii_lowercase};
 
 use crate::arguments::{Arguments, CallResult};
@@ -84,7 +84,7 @@ fn function_of(first: &Cell, second: &Cell) -> Option<Function>
 #[inline(always)]
 pub fn value_of(work: &mut Work, function: Function, arguments: Arguments) -> CallResult
     requires arguments { AreArguments work.old arguments }
-    ensures makes { is_plain function ≡ true →
+    ensures makes { is_self_contained function ≡ true →
         Performs function work.old arguments result work.new }
     ensures unmade { result ≡ CallResult.Full → work.new.forms ≡ work.old.forms }
     ensures keeps { KeepsRoom work.old work.new }

@@ -40,8 +40,8 @@ name_of function.Shift = codes "bs"
 name_of function.Rotate = codes "br"
 
 -- a function that uses two arguments, has a value, and does nothing else
-abbrev pub plain : Traits
-plain = record {
+abbrev pub no_traits : Traits
+no_traits = record {
   uses = Some 2;
   forms = concerned.Nothing;
   needs_form = false;
@@ -57,7 +57,7 @@ plain = record {
 
 -- a function that does nothing where the form that its first argument names isn't there
 abbrev pub of_form : Traits
-of_form = record plain { forms = concerned.First; needs_form = true }
+of_form = record no_traits { forms = concerned.First; needs_form = true }
 
 -- a function that takes a part of a form, with two arguments
 abbrev pub of_part : Traits
@@ -65,16 +65,16 @@ of_part = record of_form { changes_forms = true; gives = given.Part }
 
 -- what each function makes of its arguments and of the machine
 abbrev pub traits : Function → Traits
-traits function.ReadString = record plain { uses = Some 0; reads = true }
-traits function.ReadCharacter = record plain { uses = Some 0; reads = true }
-traits function.ChangeMeta = record plain { uses = Some 1; changes_meta = true }
-traits function.PrintString = record plain { uses = Some 1; prints = true }
-traits function.Halt = record plain { uses = Some 0; ends = true }
-traits function.DefineString = record plain { forms = concerned.First; changes_forms = true }
+traits function.ReadString = record no_traits { uses = Some 0; reads = true }
+traits function.ReadCharacter = record no_traits { uses = Some 0; reads = true }
+traits function.ChangeMeta = record no_traits { uses = Some 1; changes_meta = true }
+traits function.PrintString = record no_traits { uses = Some 1; prints = true }
+traits function.Halt = record no_traits { uses = Some 0; ends = true }
+traits function.DefineString = record no_traits { forms = concerned.First; changes_forms = true }
 traits function.SegmentString = record of_form { uses = None; changes_forms = true }
-traits function.DeleteDefinition = record plain { uses = None; forms = concerned.Each; changes_forms = true }
-traits function.DeleteAll = record plain { uses = Some 0; forms = concerned.All; changes_forms = true }
-traits function.ListNames = record plain { uses = Some 1; forms = concerned.All }
+traits function.DeleteDefinition = record no_traits { uses = None; forms = concerned.Each; changes_forms = true }
+traits function.DeleteAll = record no_traits { uses = Some 0; forms = concerned.All; changes_forms = true }
+traits function.ListNames = record no_traits { uses = Some 1; forms = concerned.All }
 traits function.PrintForm = record of_form { uses = Some 1; prints = true }
 traits function.CallForm = record of_form { uses = None; gives = given.Body }
 traits function.CallSegment = record of_part { default = Some 2 }
@@ -82,11 +82,11 @@ traits function.CallCharacter = record of_part { default = Some 2 }
 traits function.CallNumber = record of_part { uses = Some 3; default = Some 3 }
 traits function.InitialPart = record of_part { uses = Some 3; default = Some 3 }
 traits function.CallRestore = record of_form { uses = Some 1; changes_forms = true }
-traits function.Equal = record plain { uses = Some 4; chooses = true }
-traits function.Greater = record plain { uses = Some 4; chooses = true }
-traits (function.Arithmetic operation) = record plain { uses = Some 3; default = Some 3 }
-traits function.Union = plain
-traits function.Intersection = plain
-traits function.Complement = record plain { uses = Some 1 }
-traits function.Shift = plain
-traits function.Rotate = plain
+traits function.Equal = record no_traits { uses = Some 4; chooses = true }
+traits function.Greater = record no_traits { uses = Some 4; chooses = true }
+traits (function.Arithmetic operation) = record no_traits { uses = Some 3; default = Some 3 }
+traits function.Union = no_traits
+traits function.Intersection = no_traits
+traits function.Complement = record no_traits { uses = Some 1 }
+traits function.Shift = no_traits
+traits function.Rotate = no_traits

@@ -94,7 +94,7 @@ pub struct Facts {
 }
 
 // A function that uses two arguments, has a value, and does nothing else.
-const PLAIN: Traits = Traits {
+const NO_TRAITS: Traits = Traits {
     uses: Some(2),
     forms: Concerned::Nothing,
     needs_form: false,
@@ -114,14 +114,14 @@ const PART: Traits = Traits {
     needs_form: true,
     changes_forms: true,
     gives: Given::Part,
-    ..PLAIN
+    ..NO_TRAITS
 };
 
 // A function that computes with two numbers.
 const COMPUTED: Traits = Traits {
     uses: Some(3),
     default: Some(3),
-    ..PLAIN
+    ..NO_TRAITS
 };
 
 // The table: a row for each function.
@@ -135,7 +135,7 @@ const READ_STRING: Facts = Facts {
     traits: Traits {
         uses: Some(0),
         reads: true,
-        ..PLAIN
+        ..NO_TRAITS
     },
 };
 
@@ -148,7 +148,7 @@ const READ_CHARACTER: Facts = Facts {
     traits: Traits {
         uses: Some(0),
         reads: true,
-        ..PLAIN
+        ..NO_TRAITS
     },
 };
 
@@ -161,7 +161,7 @@ const CHANGE_META: Facts = Facts {
     traits: Traits {
         uses: Some(1),
         changes_meta: true,
-        ..PLAIN
+        ..NO_TRAITS
     },
 };
 
@@ -174,7 +174,7 @@ const PRINT_STRING: Facts = Facts {
     traits: Traits {
         uses: Some(1),
         prints: true,
-        ..PLAIN
+        ..NO_TRAITS
     },
 };
 
@@ -187,7 +187,7 @@ const HALT: Facts = Facts {
     traits: Traits {
         uses: Some(0),
         ends: true,
-        ..PLAIN
+        ..NO_TRAITS
     },
 };
 
@@ -200,7 +200,7 @@ const DEFINE_STRING: Facts = Facts {
     traits: Traits {
         forms: Concerned::First,
         changes_forms: true,
-        ..PLAIN
+        ..NO_TRAITS
     },
 };
 
@@ -215,7 +215,7 @@ const SEGMENT_STRING: Facts = Facts {
         forms: Concerned::First,
         needs_form: true,
         changes_forms: true,
-        ..PLAIN
+        ..NO_TRAITS
     },
 };
 
@@ -229,7 +229,7 @@ const DELETE_DEFINITION: Facts = Facts {
         uses: None,
         forms: Concerned::Each,
         changes_forms: true,
-        ..PLAIN
+        ..NO_TRAITS
     },
 };
 
@@ -243,7 +243,7 @@ const DELETE_ALL: Facts = Facts {
         uses: Some(0),
         forms: Concerned::All,
         changes_forms: true,
-        ..PLAIN
+        ..NO_TRAITS
     },
 };
 
@@ -256,7 +256,7 @@ const LIST_NAMES: Facts = Facts {
     traits: Traits {
         uses: Some(1),
         forms: Concerned::All,
-        ..PLAIN
+        ..NO_TRAITS
     },
 };
 
@@ -271,7 +271,7 @@ const PRINT_FORM: Facts = Facts {
         forms: Concerned::First,
         needs_form: true,
         prints: true,
-        ..PLAIN
+        ..NO_TRAITS
     },
 };
 
@@ -286,7 +286,7 @@ const CALL_FORM: Facts = Facts {
         forms: Concerned::First,
         needs_form: true,
         gives: Given::Body,
-        ..PLAIN
+        ..NO_TRAITS
     },
 };
 
@@ -351,7 +351,7 @@ const CALL_RESTORE: Facts = Facts {
         forms: Concerned::First,
         needs_form: true,
         changes_forms: true,
-        ..PLAIN
+        ..NO_TRAITS
     },
 };
 
@@ -364,7 +364,7 @@ const EQUAL: Facts = Facts {
     traits: Traits {
         uses: Some(4),
         chooses: true,
-        ..PLAIN
+        ..NO_TRAITS
     },
 };
 
@@ -377,7 +377,7 @@ const GREATER: Facts = Facts {
     traits: Traits {
         uses: Some(4),
         chooses: true,
-        ..PLAIN
+        ..NO_TRAITS
     },
 };
 
@@ -423,7 +423,7 @@ const UNION: Facts = Facts {
     title: b"Boolean union",
     sentence: b"The value has each bit that A or B has.",
     group: Group::Bits,
-    traits: PLAIN,
+    traits: NO_TRAITS,
 };
 
 const INTERSECTION: Facts = Facts {
@@ -432,7 +432,7 @@ const INTERSECTION: Facts = Facts {
     title: b"Boolean intersection",
     sentence: b"The value has each bit that both A and B have.",
     group: Group::Bits,
-    traits: PLAIN,
+    traits: NO_TRAITS,
 };
 
 const COMPLEMENT: Facts = Facts {
@@ -443,7 +443,7 @@ const COMPLEMENT: Facts = Facts {
     group: Group::Bits,
     traits: Traits {
         uses: Some(1),
-        ..PLAIN
+        ..NO_TRAITS
     },
 };
 
@@ -453,7 +453,7 @@ const SHIFT: Facts = Facts {
     title: b"Boolean shift",
     sentence: b"The value is A shifted by D bits, to the left where D is positive.",
     group: Group::Bits,
-    traits: PLAIN,
+    traits: NO_TRAITS,
 };
 
 const ROTATE: Facts = Facts {
@@ -462,7 +462,7 @@ const ROTATE: Facts = Facts {
     title: b"Boolean rotate",
     sentence: b"The value is A rotated by D bits, to the left where D is positive.",
     group: Group::Bits,
-    traits: PLAIN,
+    traits: NO_TRAITS,
 };
 
 // All functions, in the order of the definition's list.

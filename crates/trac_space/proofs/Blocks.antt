@@ -30,8 +30,8 @@ copied-up was now after start to all left n behind room within few is moved =
     rw (moved, is) (same_lists _ _ (search (rules, places)) (λ i d less. grind (arith, places)))
 
 -- to a place behind: the cells from one place on are there, and the first m follow, of which some may be there
-pub lifted-last : {X : Type 0} (was now after : List X) (start to left m n : ℕ) → left ≤ m → m ≤ n → start + m ≤ to → to + n ≤ length was → now ≡ paste was (to + left) (drop (start + left) was) (n - left) → after ≡ copy_within now start (start + m) to → after ≡ copy_within was start (start + n) to
-lifted-last was now after start to left m n some few apart within is moved =
+pub cleared-last : {X : Type 0} (was now after : List X) (start to left m n : ℕ) → left ≤ m → m ≤ n → start + m ≤ to → to + n ≤ length was → now ≡ paste was (to + left) (drop (start + left) was) (n - left) → after ≡ copy_within now start (start + m) to → after ≡ copy_within was start (start + n) to
+cleared-last was now after start to left m n some few apart within is moved =
     rw (moved, is) (same_lists _ _ (search (rules, places)) (λ i d less. grind (arith, places)))
 
 -- of ranges that are apart the first m cells are, and the last

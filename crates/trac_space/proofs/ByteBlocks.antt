@@ -3,8 +3,8 @@ use Rattle.std.proofs.lemmas.List.{take-append-drop}
 use Rattle.trac_space.proofs.Imports.{◌≡◌, ℕ, ◌+◌, ◌-◌, ◌≤◌, List, ◌++◌, length, take, drop, slice_range, sym, ap, ◌∙◌, arith, rules, take-add, places, same_lists, map-append, length-map, length-append, length-drop, length-take-le, length-between, put_mid, Cell, Byte, bytes, written_up_to}
 
 -- cells in the middle of a list whose front is another
-over : (front was more : List Cell) (i : ℕ) → length front ≡ i → length more ≡ 8 → i + 8 ≤ length was → put_mid i (i + 8 - i) (front ++ drop i was) more ≡ front ++ more ++ drop (i + 8) was
-over front was more i size eight within =
+tag_of : (front was more : List Cell) (i : ℕ) → length front ≡ i → length more ≡ 8 → i + 8 ≤ length was → put_mid i (i + 8 - i) (front ++ drop i was) more ≡ front ++ more ++ drop (i + 8) was
+tag_of front was more i size eight within =
     same_lists _ _ (search (rules, places)) (λ k d less. grind (arith, places))
 
 -- eight bytes more are written
@@ -17,7 +17,7 @@ block-more text was now new i same within is made =
     let more_len : length (bytes more) ≡ 8 = length-map more Byte ∙ length-between text i (i + 8) within ∙ eight in
     let joined : front ++ more ≡ take (i + 8) text = sym (take-add i 8 text ∙ ap (λ n. front ++ take n (drop i text)) (sym eight)) in
     rw (is, made)
-    (over (bytes front) was (bytes more) i front_len more_len (omega arith)
+    (tag_of (bytes front) was (bytes more) i front_len more_len (omega arith)
     ∙ ap (λ cells. cells ++ drop (i + 8) was) (sym (map-append Byte front more) ∙ ap bytes joined))
 
 pub still-long : (now new : List Cell) (i n : ℕ) → length now ≡ n → i + 8 ≤ n → length new ≡ 8 → length (put_mid i (i + 8 - i) now new) ≡ n
@@ -37,8 +37,8 @@ block-long text new i end e within made =
     ap length made ∙ length-map (slice_range text i end) Byte ∙ length-between text i end within ∙ omega (arith, e)
 
 -- the last cells of a list whose front is another
-over-last : (front was more : List Cell) (i : ℕ) → length front ≡ i → length more ≡ length was - i → i ≤ length was → put_mid i (length was - i) (front ++ drop i was) more ≡ front ++ more
-over-last front was more i size rest within =
+tag_of-last : (front was more : List Cell) (i : ℕ) → length front ≡ i → length more ≡ length was - i → i ≤ length was → put_mid i (length was - i) (front ++ drop i was) more ≡ front ++ more
+tag_of-last front was more i size rest within =
     same_lists _ _ (search (rules, places)) (λ k d less. grind (arith, places))
 
 -- the bytes that are left are written
@@ -50,6 +50,6 @@ last-written text was now new i same within is made =
     let long : length (front ++ drop i was) ≡ length was = omega (arith, length-append front (drop i was), size, length-drop i was, same, within) in
     rw (is, made)
     (ap (λ n. put_mid i (n - i) (front ++ drop i was) (bytes (drop i text))) long
-    ∙ over-last front was (bytes (drop i text)) i size rest (omega (arith, same, within))
+    ∙ tag_of-last front was (bytes (drop i text)) i size rest (omega (arith, same, within))
     ∙ sym (map-append Byte (take i text) (drop i text))
     ∙ ap bytes (take-append-drop i text))

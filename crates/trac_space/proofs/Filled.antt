@@ -7,7 +7,7 @@ use Rattle.std.proofs.Math.Seq.{drop-append_seam}
 use Rattle.std.proofs.lemmas.List.Elements.{All-drop}
 use Rattle.trac_space.proofs.Imports.{⊎_elim, ◌⊎◌, put_mid, drop_all, get_or_default, take-map, drop-map, drop-drop, map-append, take-take, append-nil, length-append, length-map, length-take-le, drop_more, get_or-take, All-head, All-tail, length-between, Cell, Byte, Comma, IsByte, is_byte_cell, is_comma}
 use Rattle.trac_space.proofs.Imports.{filling, filled, ordinal_of, IsPut, HaveCommas, parts_at, numbered_part, part_between}
-use Rattle.trac_space.specs.Overlay.{has_number, under, over}
+use Rattle.trac_space.specs.Tags.{has_tag, untagged, tag_of}
 
 -- what a copy to a place behind leaves
 module _ (now new : List Cell) (start to n : ℕ) (apart : start + n ≤ to) (within : to + n ≤ length now) (is : new ≡ copy_within now start (start + n) to) where
@@ -31,10 +31,10 @@ parts-meet cells a b c order up within = same_lists _ _ (search (rules, places))
 
 module _ (given : List Cell) where
   -- characters stand for themselves
-  filled-plain : (cells : List Cell) → All IsByte cells → filled given cells ≡ cells
-  filled-plain [] h = refl
-  filled-plain (Byte c ∷ cells) h = ap (λ more. Byte c ∷ more) (filled-plain cells (All-tail IsByte (Byte c) cells h))
-  filled-plain (cell ∷ cells) h = absurd (All-head IsByte cell cells h)
+  filled-no_comma_from : (cells : List Cell) → All IsByte cells → filled given cells ≡ cells
+  filled-no_comma_from [] h = refl
+  filled-no_comma_from (Byte c ∷ cells) h = ap (λ more. Byte c ∷ more) (filled-no_comma_from cells (All-tail IsByte (Byte c) cells h))
+  filled-no_comma_from (cell ∷ cells) h = absurd (All-head IsByte cell cells h)
 
   filled-append : (cells more : List Cell) → filled given (cells ++ more) ≡ filled given cells ++ filled given more
   filled-append [] more = refl
@@ -61,7 +61,7 @@ pub record Task : Type 0 where
 abbrev pub task : (cells : List Cell) (from stop low to start len : ℕ) → Task
 task cells from stop low to start len = record {
   old = cells;
-  given = map under (slice_range cells start (start + len));
+  given = map untagged (slice_range cells start (start + len));
   from = from;
   stop = stop;
   low = low;
@@ -157,7 +157,7 @@ module _ {t : Task} where
         ∙ ap (λ i. slice_range now (at - r) at ++ drop i now) lower_is
         ∙ ap (λ cells. cells ++ drop to now) (same-part (at - r) at (omega (arith, h.before, within))) in
         let size : length (slice_range t.old (at - r) at) ≡ r = omega (arith, end, length-between t.old (at - r) at (omega (arith, h.before, within, low-inside))) in
-        along-more new (slice_range t.old (at - r) at) (at - r) (to - r) r (omega (arith, order)) (omega arith) (omega (arith, few, room, lower_is)) (omega (arith, few, lower_is)) size same behind (copied-low now new start lower 8 apart reach is t.low room) (filled-plain t.given (slice_range t.old (at - r) at) (subst (All IsByte) source bytes))
+        along-more new (slice_range t.old (at - r) at) (at - r) (to - r) r (omega (arith, order)) (omega arith) (omega (arith, few, room, lower_is)) (omega (arith, few, lower_is)) size same behind (copied-low now new start lower 8 apart reach is t.low room) (filled-no_comma_from t.given (slice_range t.old (at - r) at) (subst (All IsByte) source bytes))
 
     module _ (on : ℕ) (next : on + 1 ≡ at) (order : t.from ≤ on) where
       last-cell : filled t.given (slice_range t.old on at) ≡ filling t.given (get_or t.old on Comma)
@@ -168,20 +168,20 @@ module _ {t : Task} where
           ap (filled t.given) is ∙ append-nil (filling t.given (get_or t.old on Comma))
 
       -- where the cells that fill the last one don't fit the whole doesn't
-      pub cell-full : (cells : List Cell) (n : ℕ) → length cells ≡ n → map under cells ≡ filling t.given (get_or t.old on Comma) → to < t.low + n → t.last < t.low + length (filled t.given (slice_range t.old t.from t.stop))
+      pub cell-full : (cells : List Cell) (n : ℕ) → length cells ≡ n → map untagged cells ≡ filling t.given (get_or t.old on Comma) → to < t.low + n → t.last < t.low + length (filled t.given (slice_range t.old t.from t.stop))
       cell-full cells n size are full =
           let within = h.within in
           let meet = parts-meet t.old t.from on at order (omega (arith, next)) (omega (arith, h.before, within, low-inside)) in
           let here = ap length h.split ∙ length-append (filled t.given (slice_range t.old t.from at)) h.done in
           let split = ap (λ l. length (filled t.given l)) meet ∙ ap length (filled-append t.given (slice_range t.old t.from on) (slice_range t.old on at)) ∙ length-append (filled t.given (slice_range t.old t.from on)) (filled t.given (slice_range t.old on at)) in
-          let this : length (filled t.given (slice_range t.old on at)) ≡ n = ap length last-cell ∙ ap length (sym are) ∙ length-map cells under ∙ size in
+          let this : length (filled t.given (slice_range t.old on at)) ≡ n = ap length last-cell ∙ ap length (sym are) ∙ length-map cells untagged ∙ size in
           omega (arith, full, here, split, this, h.long)
 
       -- they are put
-      pub cell-put : (new cells : List Cell) (lower n : ℕ) → length cells ≡ n → map under cells ≡ filling t.given (get_or t.old on Comma) → t.low ≤ lower → lower + n ≡ to → length new ≡ length now → take lower new ≡ take lower now → drop lower new ≡ map under cells ++ drop (lower + n) now → FilledFrom t new on lower
+      pub cell-put : (new cells : List Cell) (lower n : ℕ) → length cells ≡ n → map untagged cells ≡ filling t.given (get_or t.old on Comma) → t.low ≤ lower → lower + n ≡ to → length new ≡ length now → take lower new ≡ take lower now → drop lower new ≡ map untagged cells ++ drop (lower + n) now → FilledFrom t new on lower
       cell-put new cells lower n size are room is same front behind =
-          along-more new (map under cells) on lower n order (omega (arith, next)) room is (length-map cells under ∙ size) same
-          (behind ∙ ap (λ i. map under cells ++ drop i now) is)
+          along-more new (map untagged cells) on lower n order (omega (arith, next)) room is (length-map cells untagged ∙ size) same
+          (behind ∙ ap (λ i. map untagged cells ++ drop i now) is)
           (sym (take-take t.low lower new room) ∙ ap (take t.low) front ∙ take-take t.low lower now room)
           (last-cell ∙ sym are)
 
@@ -270,65 +270,65 @@ parts-within from at (cell ∷ cells) order k less = go (is_comma cell) k (parts
 
 -- where the parts lie among cells over which the comma marks' places do
 module _ (cells : List Cell) (commas : ℕ) (have : HaveCommas cells commas) where
-  pub begin-first : 0 ≡ (numbered_part (parts_at 0 0 (map under cells)) 1).0
-  begin-first = sym (parts-first 0 0 (map under cells))
+  pub begin-first : 0 ≡ (numbered_part (parts_at 0 0 (map untagged cells)) 1).0
+  begin-first = sym (parts-first 0 0 (map untagged cells))
 
-  pub begin-next : (k : ℕ) → k < commas → over (get_or cells k Comma) + 1 ≡ (numbered_part (parts_at 0 0 (map under cells)) (suc (suc k))).0
-  begin-next k less = ap (λ n. n + 1) (have.ends k less) ∙ sym (parts-next 0 0 (map under cells) k (omega (arith, less, have.all)))
+  pub begin-next : (k : ℕ) → k < commas → tag_of (get_or cells k Comma) + 1 ≡ (numbered_part (parts_at 0 0 (map untagged cells)) (suc (suc k))).0
+  begin-next k less = ap (λ n. n + 1) (have.ends k less) ∙ sym (parts-next 0 0 (map untagged cells) k (omega (arith, less, have.all)))
 
-  pub end-last : length cells ≡ (numbered_part (parts_at 0 0 (map under cells)) (suc commas)).1
-  end-last = omega (arith, length-map cells under, parts-last 0 0 (map under cells) commas (sym have.all))
+  pub end-last : length cells ≡ (numbered_part (parts_at 0 0 (map untagged cells)) (suc commas)).1
+  end-last = omega (arith, length-map cells untagged, parts-last 0 0 (map untagged cells) commas (sym have.all))
 
-  pub part-within : (k : ℕ) → k ≤ commas → ((numbered_part (parts_at 0 0 (map under cells)) (suc k)).0 ≤ (numbered_part (parts_at 0 0 (map under cells)) (suc k)).1) × ((numbered_part (parts_at 0 0 (map under cells)) (suc k)).1 ≤ length cells)
-  part-within k less = let h = parts-within 0 0 (map under cells) (omega arith) k (omega (arith, less, have.all)) in (h.0, omega (arith, h.1, length-map cells under))
+  pub part-within : (k : ℕ) → k ≤ commas → ((numbered_part (parts_at 0 0 (map untagged cells)) (suc k)).0 ≤ (numbered_part (parts_at 0 0 (map untagged cells)) (suc k)).1) × ((numbered_part (parts_at 0 0 (map untagged cells)) (suc k)).1 ≤ length cells)
+  part-within k less = let h = parts-within 0 0 (map untagged cells) (omega arith) k (omega (arith, less, have.all)) in (h.0, omega (arith, h.1, length-map cells untagged))
 
 -- cells behind those over which numbers lie have none
-pub others-in : (cells : List Cell) (start len commas from n : ℕ) → start + len ≤ length cells → HaveCommas (slice_range cells start (start + len)) commas → from + n ≤ len → map under (drop (start + commas - (start + from)) (slice_range cells (start + from) (start + from + n))) ≡ drop (start + commas - (start + from)) (slice_range cells (start + from) (start + from + n))
+pub others-in : (cells : List Cell) (start len commas from n : ℕ) → start + len ≤ length cells → HaveCommas (slice_range cells start (start + len)) commas → from + n ≤ len → map untagged (drop (start + commas - (start + from)) (slice_range cells (start + from) (start + from + n))) ≡ drop (start + commas - (start + from)) (slice_range cells (start + from) (start + from + n))
 others-in cells start len commas from n inside have within =
     let part = slice_range cells start (start + len) in
     let few = have.within in
     let size : length part ≡ len = omega (arith, length-between cells start (start + len) inside) in
     let m = start + commas - (start + from) in
     let is : drop m (slice_range cells (start + from) (start + from + n)) ≡ take (n - m) (drop (from + m - commas) (drop commas part)) = same_lists _ _ (search (rules, places)) (λ i d less. grind (arith, places)) in
-    ap (map under) is
-    ∙ sym (take-map under (n - m) (drop (from + m - commas) (drop commas part)))
-    ∙ ap (take (n - m)) (sym (drop-map under (from + m - commas) (drop commas part)) ∙ ap (drop (from + m - commas)) have.others)
+    ap (map untagged) is
+    ∙ sym (take-map untagged (n - m) (drop (from + m - commas) (drop commas part)))
+    ∙ ap (take (n - m)) (sym (drop-map untagged (from + m - commas) (drop commas part)) ∙ ap (drop (from + m - commas)) have.others)
     ∙ sym is
 
 -- a part as it stands among the cells
-pub part-stands : (cells : List Cell) (start len from end : ℕ) → from ≤ end → end ≤ len → start + len ≤ length cells → map under (slice_range cells (start + from) (start + from + (end - from))) ≡ slice_range (map under (slice_range cells start (start + len))) from end
+pub part-stands : (cells : List Cell) (start len from end : ℕ) → from ≤ end → end ≤ len → start + len ≤ length cells → map untagged (slice_range cells (start + from) (start + from + (end - from))) ≡ slice_range (map untagged (slice_range cells start (start + len))) from end
 part-stands cells start len from end order within inside =
     let is : slice_range cells (start + from) (start + from + (end - from)) ≡ slice_range (slice_range cells start (start + len)) from end = same_lists _ _ (search (rules, places)) (λ i d less. grind (arith, places)) in
-    ap (map under) is ∙ sym (take-map under (end - from) (drop from (slice_range cells start (start + len)))) ∙ ap (take (end - from)) (sym (drop-map under from (slice_range cells start (start + len))))
+    ap (map untagged) is ∙ sym (take-map untagged (end - from) (drop from (slice_range cells start (start + len)))) ∙ ap (take (end - from)) (sym (drop-map untagged from (slice_range cells start (start + len))))
 
 -- cells are copied, and the numbers over the first of them are taken off
-pub put-lifted : (now mid new lifted : List Cell) (start to n m : ℕ) → start + n ≤ to → to + n ≤ length now → m ≤ n → mid ≡ copy_within now start (start + n) to → lifted ≡ map under (take (to + m - to) (drop to mid)) → new ≡ put_mid to (to + m - to) mid lifted → map under (drop m (slice_range now start (start + n))) ≡ drop m (slice_range now start (start + n)) → (take to new ≡ take to now) × (drop to new ≡ map under (slice_range now start (start + n)) ++ drop (to + n) now)
-put-lifted now mid new lifted start to n m apart room few mid_is lifted_is new_is others =
+pub put-cleared : (now mid new cleared : List Cell) (start to n m : ℕ) → start + n ≤ to → to + n ≤ length now → m ≤ n → mid ≡ copy_within now start (start + n) to → cleared ≡ map untagged (take (to + m - to) (drop to mid)) → new ≡ put_mid to (to + m - to) mid cleared → map untagged (drop m (slice_range now start (start + n))) ≡ drop m (slice_range now start (start + n)) → (take to new ≡ take to now) × (drop to new ≡ map untagged (slice_range now start (start + n)) ++ drop (to + n) now)
+put-cleared now mid new cleared start to n m apart room few mid_is cleared_is new_is others =
     let part = slice_range now start (start + n) in
     let size : to + m - to ≡ m = omega arith in
     let source : take (to + m - to) (drop to mid) ≡ take m part = rw mid_is (same_lists _ _ (search (rules, places)) (λ i d less. grind (arith, places))) in
-    let lifted_to : lifted ≡ map under (take m part) = lifted_is ∙ ap (map under) source in
-    let long : length lifted ≡ m = ap length lifted_to ∙ length-map (take m part) under ∙ length-take-le m part (omega (arith, few, length-between now start (start + n) (omega (arith, apart, room)))) in
-    let whole : map under part ≡ lifted ++ drop m part = ap (map under) (sym (take-append-drop m part)) ∙ map-append under (take m part) (drop m part) ∙ ap (λ l. map under (take m part) ++ l) others ∙ ap (λ l. l ++ drop m part) (sym lifted_to) in
+    let cleared_to : cleared ≡ map untagged (take m part) = cleared_is ∙ ap (map untagged) source in
+    let long : length cleared ≡ m = ap length cleared_to ∙ length-map (take m part) untagged ∙ length-take-le m part (omega (arith, few, length-between now start (start + n) (omega (arith, apart, room)))) in
+    let whole : map untagged part ≡ cleared ++ drop m part = ap (map untagged) (sym (take-append-drop m part)) ∙ map-append untagged (take m part) (drop m part) ∙ ap (λ l. map untagged (take m part) ++ l) others ∙ ap (λ l. l ++ drop m part) (sym cleared_to) in
     let front : take to new ≡ take to now = rw (new_is, mid_is) (same_lists _ _ (search (rules, places)) (λ i d less. grind (arith, reads))) in
-    let behind : drop to new ≡ (lifted ++ drop m part) ++ drop (to + n) now = rw (new_is, mid_is) (same_lists _ _ (search (rules, places)) (λ i d less. grind (arith, reads))) in
+    let behind : drop to new ≡ (cleared ++ drop m part) ++ drop (to + n) now = rw (new_is, mid_is) (same_lists _ _ (search (rules, places)) (λ i d less. grind (arith, reads))) in
     (front, behind ∙ ap (λ l. l ++ drop (to + n) now) (sym whole))
 
 -- where no more than those have numbers
-pub others-less : (part : List Cell) (n k m : ℕ) → length part ≡ n → ((m ≡ k) ⊎ (m ≡ n)) → map under (drop k part) ≡ drop k part → map under (drop m part) ≡ drop m part
+pub others-less : (part : List Cell) (n k m : ℕ) → length part ≡ n → ((m ≡ k) ⊎ (m ≡ n)) → map untagged (drop k part) ≡ drop k part → map untagged (drop m part) ≡ drop m part
 others-less part n k m size which others =
     ⊎_elim
-    (λ is. ap (λ i. map under (drop i part)) is ∙ others ∙ ap (λ i. drop i part) (sym is))
+    (λ is. ap (λ i. map untagged (drop i part)) is ∙ others ∙ ap (λ i. drop i part) (sym is))
     (λ all.
     let none : drop m part ≡ [] = drop_all m part (omega (arith, all, size)) in
-    ap (map under) none ∙ sym none)
+    ap (map untagged) none ∙ sym none)
     which
 
-pub numbered-in : (cells : List Cell) (start len k : ℕ) → start + len ≤ length cells → k < len → has_number (get_or (slice_range cells start (start + len)) k Comma) ≡ true → has_number (get_or cells (start + k) (Byte 0)) ≡ true
+pub numbered-in : (cells : List Cell) (start len k : ℕ) → start + len ≤ length cells → k < len → has_tag (get_or (slice_range cells start (start + len)) k Comma) ≡ true → has_tag (get_or cells (start + k) (Byte 0)) ≡ true
 numbered-in cells start len k inside less is =
-    ap has_number (get_or_default cells (start + k) (Byte 0) Comma (omega (arith, less, inside)) ∙ sym (get_or-between cells start (start + len) k Comma (omega (arith, less)))) ∙ is
+    ap has_tag (get_or_default cells (start + k) (Byte 0) Comma (omega (arith, less, inside)) ∙ sym (get_or-between cells start (start + len) k Comma (omega (arith, less)))) ∙ is
 
 -- the number over one of the cells
-pub number-in : (cells : List Cell) (start len k : ℕ) → start + len ≤ length cells → k < len → over (get_or cells (start + k) (Byte 0)) ≡ over (get_or (slice_range cells start (start + len)) k Comma)
+pub number-in : (cells : List Cell) (start len k : ℕ) → start + len ≤ length cells → k < len → tag_of (get_or cells (start + k) (Byte 0)) ≡ tag_of (get_or (slice_range cells start (start + len)) k Comma)
 number-in cells start len k inside less =
-    ap over (get_or_default cells (start + k) (Byte 0) Comma (omega (arith, less, inside)) ∙ sym (get_or-between cells start (start + len) k Comma (omega (arith, less))))
+    ap tag_of (get_or_default cells (start + k) (Byte 0) Comma (omega (arith, less, inside)) ∙ sym (get_or-between cells start (start + len) k Comma (omega (arith, less))))

@@ -16,7 +16,7 @@ pub use Rattle.std.specs.Option.{SomeIff}
 pub use Rattle.std.specs.Prelude.{if◌then◌else◌, ◌==◌}
 pub use Rattle.trac_space.specs.Arguments.{IsArgument, arguments}
 pub use Rattle.trac_space.specs.Block.{IsLaidOut, Parts, lists, parts, right_of, seen_lists}
-pub use Rattle.trac_space.specs.Calls.{HasCallsUpTo, IsLastCall, IsLinked, IsLinkedAt, link, up_to}
+pub use Rattle.trac_space.specs.Calls.{HasCallsUpTo, IsLastCall, IsLinked, IsLinkedAt, frame_link, up_to}
 pub use Rattle.trac_space.specs.Cells.{IsCommaAt, IsNoCall, NoCall, NoComma, bytes, commas, is_call, is_comma, seen, written_up_to}
 pub use Rattle.trac_space.specs.Filled.{HaveCommas, IsPut, filled, filling, numbered_part, ordinal_of, part_between, parts_at}
 pub use Rattle.trac_space.specs.Lists.{Lists}

@@ -25,17 +25,17 @@ module _ (table : List ℕ) (was : List Cell) (start k : ℕ) (d : Cell) (within
   turned-at = get_or-map (turned_by table) (drop start was) k d (turned_by table d) part_long ∙ ap (turned_by table) (get_or-drop start was k d)
 
   -- a cell more that is no comma mark
-  pub plain-more : (last : ℕ) → last ≤ k → is_comma (turned_by table (get_or was (start + k) d)) ≡ false → NoComma (drop last (take k (turned table (drop start was)))) → NoComma (drop last (take (k + 1) (turned table (drop start was))))
-  plain-more last order none plain =
+  pub no_comma_from-more : (last : ℕ) → last ≤ k → is_comma (turned_by table (get_or was (start + k) d)) ≡ false → NoComma (drop last (take k (turned table (drop start was)))) → NoComma (drop last (take (k + 1) (turned table (drop start was))))
+  no_comma_from-more last order none no_comma_from =
       let cells = turned table (drop start was) in
       let long : k < length cells = omega (arith, part_long, length-map (drop start was) (turned_by table)) in
       let size : last ≤ length (take k cells) = omega (arith, length-take-le k cells (omega (arith, long))) in
       rw (take_more cells k (turned_by table d) long, drop-append-le last (take k cells) (get_or cells k (turned_by table d) ∷ []) size)
-      (All-push (λ cell. is_comma cell ≡ false) _ _ plain (ap is_comma turned-at ∙ none))
+      (All-push (λ cell. is_comma cell ≡ false) _ _ no_comma_from (ap is_comma turned-at ∙ none))
 
 -- no comma mark stands behind the last cell
-pub plain-none : (cells : List Cell) (k : ℕ) → k ≤ length cells → NoComma (drop k (take k cells))
-plain-none cells k within =
+pub no_comma_from-none : (cells : List Cell) (k : ℕ) → k ≤ length cells → NoComma (drop k (take k cells))
+no_comma_from-none cells k within =
     rw (drop_all k (take k cells) (omega (arith, length-take-le k cells within))) (All-nil (λ cell. is_comma cell ≡ false))
 
 -- a character stays, or becomes a comma mark
@@ -46,15 +46,15 @@ pub turned-one : (table : List ℕ) (cell : Cell) → number_in table cell ≡ 1
 turned-one table cell one = rw one refl
 
 -- what becomes of a cell in a run is seen as it is, and is no call mark
-turned-plain : (table : List ℕ) (cell : Cell) → (seen (turned_by table cell) ≡ turned_by table cell) × IsNoCall (turned_by table cell)
-turned-plain table cell = go (number_in table cell == 0) (character_of cell)
+turned-no_comma_from : (table : List ℕ) (cell : Cell) → (seen (turned_by table cell) ≡ turned_by table cell) × IsNoCall (turned_by table cell)
+turned-no_comma_from table cell = go (number_in table cell == 0) (character_of cell)
   where
     go : (stays : Bool) (c : ℕ) → (seen (if stays then Byte c else Comma) ≡ (if stays then Byte c else Comma)) × IsNoCall (if stays then Byte c else Comma)
     go true c = (refl, refl)
     go false c = (refl, refl)
 
 pub turned-calls : (table : List ℕ) (cells : List Cell) → NoCall (turned table cells)
-turned-calls table cells = All-map IsNoCall (turned_by table) cells (λ k d less. (turned-plain table (get_or cells k d)).1)
+turned-calls table cells = All-map IsNoCall (turned_by table) cells (λ k d less. (turned-no_comma_from table (get_or cells k d)).1)
 
 -- a cell has the character that it is seen with
 pub character-seen : (cell : Cell) → character_of (seen cell) ≡ character_of cell
@@ -67,7 +67,7 @@ turned-seen table (cell ∷ cells) = rw (character-seen cell, turned-seen table 
 
 seen-turned : (table : List ℕ) (cells : List Cell) → map seen (turned table cells) ≡ turned table cells
 seen-turned table [] = refl
-seen-turned table (cell ∷ cells) = rw ((turned-plain table cell).0, seen-turned table cells) refl
+seen-turned table (cell ∷ cells) = rw ((turned-no_comma_from table cell).0, seen-turned table cells) refl
 
 module _ (right : List Cell) (a n : ℕ) (within : n ≤ a) where
   -- the first cells of active, as they stand in the block
@@ -93,8 +93,8 @@ module _ (right : List Cell) (a n : ℕ) (within : n ≤ a) where
   pub front-turned : (table : List ℕ) → map seen (take n (turned table right)) ≡ turned table (take n (take a (map seen right)))
   front-turned table = ap (map seen) (front-turns table) ∙ seen-turned table (take n (take a (map seen right)))
 
-  pub front-plain : (table : List ℕ) (last : ℕ) → NoComma (drop last (take n (turned table right))) → NoComma (drop last (turned table (take n (take a (map seen right)))))
-  front-plain table last h = rw (front-turns table) at h
+  pub front-no_comma_from : (table : List ℕ) (last : ℕ) → NoComma (drop last (take n (turned table right))) → NoComma (drop last (turned table (take n (take a (map seen right)))))
+  front-no_comma_from table last h = rw (front-turns table) at h
 
 -- the table has one number for the character behind a run, as it stands in the block and as it is seen
 pub front-next : (right : List Cell) (a n : ℕ) → n < a → a ≤ length right → (table : List ℕ) → number_in table (get_or right n (Byte 0)) ≡ number_in table (get_or (take a (map seen right)) n (Byte 0))

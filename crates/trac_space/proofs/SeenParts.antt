@@ -4,19 +4,19 @@ use Rattle.std.proofs.lemmas.List.Elements.{All-drop}
 use Rattle.trac_space.proofs.Imports.{◌≡◌, ℕ, suc, false, ◌+◌, ◌-◌, ◌<◌, ◌≤◌, All, List, [], ◌∷◌, ◌++◌, length, take, drop, map, get_or, slice_range, refl, sym, ap, ◌∙◌, arith, subst, ⊎_elim}
 use Rattle.trac_space.proofs.Imports.{take-map, drop-map, map-append, length-map, All-head, All-tail, All-cons, All-nil, Cell, Byte, Call, Comma, Gap, Head, seen, is_comma, cases_lt, drop-drop, NoComma, HaveCommas, parts_at, numbered_part, part_between, filling, filled}
 use Rattle.std.proofs.Math.ListN.{get_or-map as get_or-map-same}
-use Rattle.trac_space.specs.Overlay.{has_number, under, over}
-use Rattle.trac_space.proofs.LaidCommas.{Takes}
-use Rattle.trac_space.proofs.Lifted.{seen-under}
+use Rattle.trac_space.specs.Tags.{has_tag, untagged, tag_of}
+use Rattle.trac_space.proofs.TaggedCommas.{Takes}
+use Rattle.trac_space.proofs.Cleared.{seen-untagged}
 
 comma-seen : (cell : Cell) → is_comma (seen cell) ≡ is_comma cell
 comma-seen (Byte b) = refl
 comma-seen cell = refl
 
-over-seen : (cell : Cell) → over (seen cell) ≡ over cell
-over-seen (Byte b) = refl
-over-seen cell = refl
+tag_of-seen : (cell : Cell) → tag_of (seen cell) ≡ tag_of cell
+tag_of-seen (Byte b) = refl
+tag_of-seen cell = refl
 
-number-seen : (cell : Cell) → has_number (seen cell) ≡ has_number cell
+number-seen : (cell : Cell) → has_tag (seen cell) ≡ has_tag cell
 number-seen (Byte b) = refl
 number-seen cell = refl
 
@@ -25,33 +25,33 @@ parts-seen from at [] = refl
 parts-seen from at (cell ∷ cells) = rw (comma-seen cell, parts-seen (at + 1) (at + 1) cells, parts-seen from (at + 1) cells) refl
 
 -- no numbers lie over cells, if none lies over them as they are seen
-plain-one : (cell : Cell) → under (seen cell) ≡ seen cell → under cell ≡ cell
-plain-one (Gap k) is = absurd cc
-plain-one (Head k) is = absurd cc
-plain-one (Byte b) is = refl
-plain-one (Call mode k) is = refl
-plain-one Comma is = refl
+no_comma_from-one : (cell : Cell) → untagged (seen cell) ≡ seen cell → untagged cell ≡ cell
+no_comma_from-one (Gap k) is = absurd cc
+no_comma_from-one (Head k) is = absurd cc
+no_comma_from-one (Byte b) is = refl
+no_comma_from-one (Call mode k) is = refl
+no_comma_from-one Comma is = refl
 
-plain-seen : (cells : List Cell) → map under (map seen cells) ≡ map seen cells → map under cells ≡ cells
-plain-seen [] is = refl
-plain-seen (cell ∷ cells) is =
-    rw (plain-one cell (ap (λ l. get_or l 0 Comma) is), plain-seen cells (ap (drop 1) is)) refl
+no_comma_from-seen : (cells : List Cell) → map untagged (map seen cells) ≡ map seen cells → map untagged cells ≡ cells
+no_comma_from-seen [] is = refl
+no_comma_from-seen (cell ∷ cells) is =
+    rw (no_comma_from-one cell (ap (λ l. get_or l 0 Comma) is), no_comma_from-seen cells (ap (drop 1) is)) refl
 
 -- the places of comma marks lie over cells, if they lie over the cells as these are seen
 pub commas-from-seen : (cells part : List Cell) (count : ℕ) → map seen cells ≡ part → HaveCommas part count → HaveCommas cells count
 commas-from-seen cells part count shown have =
-    let same : map under part ≡ map seen (map under cells) = ap (map under) (sym shown) ∙ sym (seen-under cells) in
-    let parts : parts_at 0 0 (map under part) ≡ parts_at 0 0 (map under cells) = ap (parts_at 0 0) same ∙ parts-seen 0 0 (map under cells) in
+    let same : map untagged part ≡ map seen (map untagged cells) = ap (map untagged) (sym shown) ∙ sym (seen-untagged cells) in
+    let parts : parts_at 0 0 (map untagged part) ≡ parts_at 0 0 (map untagged cells) = ap (parts_at 0 0) same ∙ parts-seen 0 0 (map untagged cells) in
     let rest : map seen (drop count cells) ≡ drop count part = sym (drop-map seen count cells) ∙ ap (drop count) shown in
     record {
       within = omega (arith, have.within, ap length shown, length-map cells seen);
-      others = plain-seen (drop count cells) (ap (map under) rest ∙ have.others ∙ sym rest);
+      others = no_comma_from-seen (drop count cells) (ap (map untagged) rest ∙ have.others ∙ sym rest);
       all = ap length (sym parts) ∙ have.all;
-      laid = λ k less.
-          let read : has_number (get_or part k Comma) ≡ has_number (get_or cells k Comma) = ap (λ l. has_number (get_or l k Comma)) (sym shown) ∙ ap has_number (get_or-map-same seen cells k Comma) ∙ number-seen (get_or cells k Comma) in
-          sym read ∙ have.laid k less;
+      tagged = λ k less.
+          let read : has_tag (get_or part k Comma) ≡ has_tag (get_or cells k Comma) = ap (λ l. has_tag (get_or l k Comma)) (sym shown) ∙ ap has_tag (get_or-map-same seen cells k Comma) ∙ number-seen (get_or cells k Comma) in
+          sym read ∙ have.tagged k less;
       ends = λ k less.
-          let read : over (get_or part k Comma) ≡ over (get_or cells k Comma) = ap (λ l. over (get_or l k Comma)) (sym shown) ∙ ap over (get_or-map-same seen cells k Comma) ∙ over-seen (get_or cells k Comma) in
+          let read : tag_of (get_or part k Comma) ≡ tag_of (get_or cells k Comma) = ap (λ l. tag_of (get_or l k Comma)) (sym shown) ∙ ap tag_of (get_or-map-same seen cells k Comma) ∙ tag_of-seen (get_or cells k Comma) in
           sym read ∙ have.ends k less ∙ ap (λ p. (numbered_part p (suc k)).1) parts;
     }
 
@@ -67,16 +67,16 @@ pub takes-from-seen : (cells : List Cell) → All Takes (map seen cells) → All
 takes-from-seen [] takes = All-nil Takes
 takes-from-seen (cell ∷ cells) takes = All-cons Takes cell cells (takes-seen cell (All-head Takes (seen cell) (map seen cells) takes)) (takes-from-seen cells (All-tail Takes (seen cell) (map seen cells) takes))
 
-numbered-seen : (cell : Cell) → Takes (under cell) → seen cell ≡ cell
+numbered-seen : (cell : Cell) → Takes (untagged cell) → seen cell ≡ cell
 numbered-seen (Call mode k) takes = absurd cc
 numbered-seen (Byte b) takes = refl
 numbered-seen Comma takes = refl
 numbered-seen (Gap k) takes = refl
 numbered-seen (Head k) takes = refl
 
-pub all-numbered-seen : (cells : List Cell) → All Takes (map under cells) → map seen cells ≡ cells
+pub all-numbered-seen : (cells : List Cell) → All Takes (map untagged cells) → map seen cells ≡ cells
 all-numbered-seen [] takes = refl
-all-numbered-seen (cell ∷ cells) takes = rw (numbered-seen cell (All-head Takes (under cell) (map under cells) takes), all-numbered-seen cells (All-tail Takes (under cell) (map under cells) takes)) refl
+all-numbered-seen (cell ∷ cells) takes = rw (numbered-seen cell (All-head Takes (untagged cell) (map untagged cells) takes), all-numbered-seen cells (All-tail Takes (untagged cell) (map untagged cells) takes)) refl
 
 part-seen : (given : List Cell) (number : ℕ) → map seen (part_between given number) ≡ part_between (map seen given) number
 part-seen given number =
@@ -100,11 +100,11 @@ filled-seen given (cell ∷ cells) =
     ∙ ap (λ more. more ++ map seen (filled given cells)) (filling-seen given cell)
     ∙ ap (λ more. filling (map seen given) (seen cell) ++ more) (filled-seen given cells)
 
-plain-from-seen : (cells : List Cell) → NoComma (map seen cells) → NoComma cells
-plain-from-seen [] none = none
-plain-from-seen (cell ∷ cells) none =
+no_comma_from-from-seen : (cells : List Cell) → NoComma (map seen cells) → NoComma cells
+no_comma_from-from-seen [] none = none
+no_comma_from-from-seen (cell ∷ cells) none =
     let No : Cell → Type 0 = λ cell. is_comma cell ≡ false in
-    All-cons No cell cells (sym (comma-seen cell) ∙ All-head No (seen cell) (map seen cells) none) (plain-from-seen cells (All-tail No (seen cell) (map seen cells) none))
+    All-cons No cell cells (sym (comma-seen cell) ∙ All-head No (seen cell) (map seen cells) none) (no_comma_from-from-seen cells (All-tail No (seen cell) (map seen cells) none))
 
 -- the last cells of a part
 last-cells : (cells : List Cell) (from end n m : ℕ) → from + n + m ≡ end → drop n (slice_range cells from end) ≡ take m (drop (from + n) cells)
@@ -113,24 +113,24 @@ last-cells cells from end n m whole =
     ap (λ k. drop n (take k (drop from cells))) size ∙ drop-take n m (drop from cells) ∙ ap (take m) (drop-drop n from cells)
 
 -- no comma mark stands among the last cells of a part, if none stands from an earlier place on
-plain-behind : (cells : List Cell) (first end plain n : ℕ) → first + n ≤ end → plain ≤ first + n → NoComma (slice_range (map seen cells) plain end) → NoComma (drop n (slice_range cells first end))
-plain-behind cells first end plain n within before none =
+no_comma_from-behind : (cells : List Cell) (first end no_comma_from n : ℕ) → first + n ≤ end → no_comma_from ≤ first + n → NoComma (slice_range (map seen cells) no_comma_from end) → NoComma (drop n (slice_range cells first end))
+no_comma_from-behind cells first end no_comma_from n within before none =
     let m = end - (first + n) in
-    let k = first + n - plain in
-    let place : plain + k ≡ first + n = omega (arith, before) in
-    let shown : slice_range (map seen cells) plain end ≡ map seen (slice_range cells plain end) = simp (take-map, drop-map) refl in
-    let all = plain-from-seen (slice_range cells plain end) (subst NoComma shown none) in
-    let last = All-drop (λ cell. is_comma cell ≡ false) k (slice_range cells plain end) all in
-    let same : drop k (slice_range cells plain end) ≡ drop n (slice_range cells first end) =
-    last-cells cells plain end k m (omega (arith, within, before)) ∙ ap (λ i. take m (drop i cells)) place ∙ sym (last-cells cells first end n m (omega (arith, within))) in
+    let k = first + n - no_comma_from in
+    let place : no_comma_from + k ≡ first + n = omega (arith, before) in
+    let shown : slice_range (map seen cells) no_comma_from end ≡ map seen (slice_range cells no_comma_from end) = simp (take-map, drop-map) refl in
+    let all = no_comma_from-from-seen (slice_range cells no_comma_from end) (subst NoComma shown none) in
+    let last = All-drop (λ cell. is_comma cell ≡ false) k (slice_range cells no_comma_from end) all in
+    let same : drop k (slice_range cells no_comma_from end) ≡ drop n (slice_range cells first end) =
+    last-cells cells no_comma_from end k m (omega (arith, within, before)) ∙ ap (λ i. take m (drop i cells)) place ∙ sym (last-cells cells first end n m (omega (arith, within))) in
     subst NoComma same last
 
 -- the same, where there may be no last cells
-pub plain-last : (cells : List Cell) (first end plain n : ℕ) → first + n ≤ end → (first + n < plain → end ≤ first + n) → NoComma (slice_range (map seen cells) plain end) → NoComma (drop n (slice_range cells first end))
-plain-last cells first end plain n within at none =
+pub no_comma_from-last : (cells : List Cell) (first end no_comma_from n : ℕ) → first + n ≤ end → (first + n < no_comma_from → end ≤ first + n) → NoComma (slice_range (map seen cells) no_comma_from end) → NoComma (drop n (slice_range cells first end))
+no_comma_from-last cells first end no_comma_from n within at none =
     ⊎_elim
     (λ less.
     let e : first + n + 0 ≡ end = omega (arith, within, at less) in
     subst NoComma (sym (last-cells cells first end n 0 e)) (All-nil (λ cell. is_comma cell ≡ false)))
-    (λ past. plain-behind cells first end plain n within past none)
-    (cases_lt (first + n) plain)
+    (λ past. no_comma_from-behind cells first end no_comma_from n within past none)
+    (cases_lt (first + n) no_comma_from)

@@ -2,10 +2,10 @@
 use Rattle.std.specs.Prelude.{◌≡◌, ℕ, suc, true, ◌+◌, ◌<◌, ◌≤◌, List, [], ◌∷◌, ◌++◌, length, drop, map}
 use Rattle.std.specs.Prelude.{slice_range, slice_index_or, if◌then◌else◌, Option, MatchOption}
 use Rattle.trac_space.specs.declared.cell.Cell.{Cell}
-use Rattle.trac_space.specs.declared.filling.Given.{Given}
+use Rattle.trac_space.specs.declared.filling.ArgumentTable.{ArgumentTable}
 use Rattle.trac_space.specs.declared.cell.Cell.TheVariants.{Byte, Call, Comma, Gap, Head}
 use Rattle.trac_space.specs.Cells.{is_comma}
-use Rattle.trac_space.specs.Overlay.{under, over, has_number}
+use Rattle.trac_space.specs.Tags.{untagged, tag_of, has_tag}
 use Rattle.trac_space.specs.Texts.{is_byte_cell}
 
 -- the ordinal of a gap, 0 for any other cell
@@ -45,18 +45,18 @@ filled given (cell ∷ cells) = filling given cell ++ filled given cells
 -- the cells have `count` comma marks, and the places of these lie over the first `count` cells
 pub record HaveCommas (cells : List Cell) (count : ℕ) : Type 0 where
   pub within : count ≤ length cells
-  pub others : map under (drop count cells) ≡ drop count cells
-  pub all : length (parts_at 0 0 (map under cells)) ≡ suc count
-  pub laid : (k : ℕ) → k < count → has_number (slice_index_or cells k Comma) ≡ true
+  pub others : map untagged (drop count cells) ≡ drop count cells
+  pub all : length (parts_at 0 0 (map untagged cells)) ≡ suc count
+  pub tagged : (k : ℕ) → k < count → has_tag (slice_index_or cells k Comma) ≡ true
   pub ends : (k : ℕ) → k < count →
-      over (slice_index_or cells k Comma) ≡ (numbered_part (parts_at 0 0 (map under cells)) (suc k)).1
+      tag_of (slice_index_or cells k Comma) ≡ (numbered_part (parts_at 0 0 (map untagged cells)) (suc k)).1
 
 -- the given cells, without the numbers that lie over them
-abbrev pub given_cells : List Cell → Given → List Cell
-given_cells cells given = map under (slice_range cells given.start (given.start + given.len))
+abbrev pub table_cells : List Cell → ArgumentTable → List Cell
+table_cells cells given = map untagged (slice_range cells given.start (given.start + given.len))
 
 -- the given cells stand in a block, and the places of their comma marks lie over the first of them
-pub record AreGiven (cells : List Cell) (given : Given) : Type 0 where
+pub record IsArgumentTable (cells : List Cell) (given : ArgumentTable) : Type 0 where
   pub inside : given.start + given.len ≤ length cells
   pub bounded : length cells ≤ 16777216
   pub commas : HaveCommas (slice_range cells given.start (given.start + given.len)) given.commas

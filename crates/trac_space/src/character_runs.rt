@@ -13,7 +13,7 @@ use crate::copies::BLOCK;
 // character, 1 makes it a comma mark, a higher number ends the run before it. Gives the length of the
 // run, and the place in it behind its last comma mark.
 #[inline]
-pub(crate) fn copy_turned(
+pub(crate) fn translate_run(
     cells: &mut [Cell],
     start: usize,
     to: usize,
@@ -29,7 +29,7 @@ pub(crate) fn copy_turned(
     ensures ends { result.0 < most →
         1 < number_in table.now (slice_index_or cells.old (start + result.0) (Byte 0)) }
     ensures last { result.1 ≤ result.0 }
-    ensures plain { NoComma (drop result.1 (take result.0
+    ensures no_comma_from { NoComma (drop result.1 (take result.0
         (turned table.now (drop start cells.old)))) }
     ensures len { length cells.new ≡ length cells.old }
     ensures after { cells.new ≡

@@ -5,39 +5,39 @@ ghost use Rattle.std.specs.Prelude.{map, slice_range, slice_index_or, suc};
 ghost use Rattle.std.specs.List.{copy_within};
 ghost use Rattle.trac_space.specs.declared.cell.Cell.TheVariants.{Comma};
 ghost use Rattle.trac_space.specs.Cells.{NoComma};
-ghost use Rattle.trac_space.specs.Filled.{AreGiven, given_cells, ordinal_of, part_between, filling, filled, HaveCommas};
+ghost use Rattle.trac_space.specs.Filled.{IsArgumentTable, table_cells, ordinal_of, part_between, filling, filled, HaveCommas};
 ghost use Rattle.trac_space.specs.Filled.{IsPut, parts_at, numbered_part};
-ghost use Rattle.trac_space.specs.Overlay.{takes_number, under};
+ghost use Rattle.trac_space.specs.Tags.{takes_tag, untagged};
 
 use crate::cell::{Cell, is_character, is_comma};
 use crate::character_runs::characters_before;
 use crate::copies::{BLOCK, HIGHER, copy_at_once, copy_short};
-use crate::overlay::{cell_under, laid, lift, number_over_laid};
+use crate::tags::{clear_tags, present_tag, tagged, untagged_cell};
 
 // The cells whose parts fill the gaps: where they begin in the block, how many they are, and how many
 // comma marks are among them. The places of the comma marks lie over the first of these cells.
 #[derive(Clone, Copy)]
-pub(crate) struct Given {
+pub(crate) struct ArgumentTable {
     pub(crate) start: usize,
     pub(crate) len: usize,
     pub(crate) commas: usize,
 }
 
 /// Lays the places of the comma marks over the first cells, in order, and gives how many they are. None
-/// stands from place `plain` on.
+/// stands from place `no_comma_from` on.
 #[inline(always)]
-pub(crate) fn lay_commas(cells: &mut [Cell], plain: usize) -> usize
-    requires takes { All (λ cell. IsTrue (takes_number cell)) cells.old }
+pub(crate) fn tag_commas(cells: &mut [Cell], no_comma_from: usize) -> usize
+    requires takes { All (λ cell. IsTrue (takes_tag cell)) cells.old }
     requires bounded { length cells.old ≤ 16777216 }
-    requires within { plain ≤ length cells.old }
-    requires plain { NoComma (drop plain cells.old) }
+    requires within { no_comma_from ≤ length cells.old }
+    requires no_comma_from { NoComma (drop no_comma_from cells.old) }
     ensures commas { HaveCommas cells.new result }
-    ensures same { map under cells.new ≡ cells.old }
+    ensures same { map untagged cells.new ≡ cells.old }
 {
     let mut count = 0;
-    for at in 0..plain {
+    for at in 0..no_comma_from {
         if is_comma(&cells[at]) {
-            cells[count] = laid(cells[count], at as u32);
+            cells[count] = tagged(cells[count], at as u32);
             count += 1;
         }
     }
@@ -55,15 +55,15 @@ pub(crate) fn fill_cells(
     stop: usize,
     low: usize,
     to: usize,
-    given: Given,
+    given: ArgumentTable,
 ) -> Option<usize>
     requires order { from ≤ stop }
     requires before { stop ≤ given.start }
     requires behind { given.start + given.len ≤ low }
     requires room { low ≤ to }
     requires inside { to ≤ length cells.old }
-    requires given { AreGiven cells.old given }
-    ensures put { let more = filled (given_cells cells.old given) (slice_range cells.old from stop) in
+    requires given { IsArgumentTable cells.old given }
+    ensures put { let more = filled (table_cells cells.old given) (slice_range cells.old from stop) in
         IsPut cells.old cells.new low to more result }
     ensures len { length cells.new ≡ length cells.old }
     ensures front { take low cells.new ≡ take low cells.old }
@@ -88,7 +88,7 @@ pub(crate) fn fill_cells(
             return None;
         }
         to -= n;
-        put_lifted(cells, start, to, n, given);
+        put_untagged(cells, start, to, n, given);
     }
     fill_each(cells, from, at, low, to, given)
 }
@@ -101,15 +101,15 @@ fn fill_each(
     stop: usize,
     low: usize,
     to: usize,
-    given: Given,
+    given: ArgumentTable,
 ) -> Option<usize>
     requires order { from ≤ stop }
     requires before { stop ≤ given.start }
     requires behind { given.start + given.len ≤ low }
     requires room { low ≤ to }
     requires inside { to ≤ length cells.old }
-    requires given { AreGiven cells.old given }
-    ensures put { let more = filled (given_cells cells.old given) (slice_range cells.old from stop) in
+    requires given { IsArgumentTable cells.old given }
+    ensures put { let more = filled (table_cells cells.old given) (slice_range cells.old from stop) in
         IsPut cells.old cells.new low to more result }
     ensures len { length cells.new ≡ length cells.old }
     ensures front { take low cells.new ≡ take low cells.old }
@@ -124,41 +124,41 @@ fn fill_each(
             return None;
         }
         to -= n;
-        put_lifted(cells, start, to, n, given);
+        put_untagged(cells, start, to, n, given);
     }
     Some(to)
 }
 
 // Copies `n` cells to a higher place apart, without the numbers that lie over them.
 #[inline(always)]
-fn put_lifted(cells: &mut [Cell], start: usize, to: usize, n: usize, given: Given)
+fn put_untagged(cells: &mut [Cell], start: usize, to: usize, n: usize, given: ArgumentTable)
     requires apart { start + n ≤ to }
     requires room { to + n ≤ length cells.old }
     requires bounded { length cells.old ≤ 16777216 }
     requires within { given.start + given.commas ≤ length cells.old }
     requires others { let rest = drop (given.start + given.commas - start) (slice_range cells.old start (start + n)) in
-        map under rest ≡ rest }
+        map untagged rest ≡ rest }
     ensures len { length cells.new ≡ length cells.old }
     ensures front { take to cells.new ≡ take to cells.old }
-    ensures put { let more = map under (slice_range cells.old start (start + n)) in
+    ensures put { let more = map untagged (slice_range cells.old start (start + n)) in
         drop to cells.new ≡ more ++ drop (to + n) cells.old }
 {
-    let laid = given.start + given.commas;
-    if start >= laid {
-        put_plain(cells, start, to, n);
+    let tagged = given.start + given.commas;
+    if start >= tagged {
+        put_as_they_are(cells, start, to, n);
         return;
     }
     if n == 1 {
-        cells[to] = cell_under(cells[start]);
+        cells[to] = untagged_cell(cells[start]);
         return;
     }
     copy_short::<HIGHER>(cells, start, n, to);
-    lift(&mut cells[to..to + n.min(laid - start)]);
+    clear_tags(&mut cells[to..to + n.min(tagged - start)]);
 }
 
 // Copies `n` cells to a higher place apart. One cell, the commonest case, needs no call.
 #[inline(always)]
-fn put_plain(cells: &mut [Cell], start: usize, to: usize, n: usize)
+fn put_as_they_are(cells: &mut [Cell], start: usize, to: usize, n: usize)
     requires apart { start + n ≤ to }
     requires room { to + n ≤ length cells.old }
     requires bounded { length cells.old ≤ 16777216 }
@@ -185,15 +185,15 @@ fn distance(start: usize, to: usize) -> usize
 // Where the cells begin that stand for the one at place `at`, and how many they are: a character stands
 // for itself, the part of its ordinal for a gap.
 #[inline]
-fn filling_of(cells: &[Cell], at: usize, given: Given) -> (usize, usize)
+fn filling_of(cells: &[Cell], at: usize, given: ArgumentTable) -> (usize, usize)
     requires before { at < given.start }
-    requires given { AreGiven cells.now given }
+    requires given { IsArgumentTable cells.now given }
     ensures within { result.0 + result.1 ≤ given.start + given.len }
-    ensures cells { map under (slice_range cells.now result.0 (result.0 + result.1)) ≡
-        filling (given_cells cells.now given) (slice_index_or cells.now at Comma) }
-    ensures others { let laid = given.start + given.commas in
-        let rest = drop (laid - result.0) (slice_range cells.now result.0 (result.0 + result.1)) in
-        map under rest ≡ rest }
+    ensures cells { map untagged (slice_range cells.now result.0 (result.0 + result.1)) ≡
+        filling (table_cells cells.now given) (slice_index_or cells.now at Comma) }
+    ensures others { let tagged = given.start + given.commas in
+        let rest = drop (tagged - result.0) (slice_range cells.now result.0 (result.0 + result.1)) in
+        map untagged rest ≡ rest }
 {
     if is_character(&cells[at]) {
         return (at, 1);
@@ -204,14 +204,14 @@ fn filling_of(cells: &[Cell], at: usize, given: Given) -> (usize, usize)
 // Where the part of this number, from 1, begins, and how many cells it has: none if there is no such
 // part.
 #[inline(always)]
-fn part_numbered(cells: &[Cell], number: u32, given: Given) -> (usize, usize)
-    requires { AreGiven cells.now given }
+fn part_numbered(cells: &[Cell], number: u32, given: ArgumentTable) -> (usize, usize)
+    requires { IsArgumentTable cells.now given }
     ensures within { result.0 + result.1 ≤ given.start + given.len }
-    ensures cells { map under (slice_range cells.now result.0 (result.0 + result.1)) ≡
-        part_between (given_cells cells.now given) number }
-    ensures others { let laid = given.start + given.commas in
-        let rest = drop (laid - result.0) (slice_range cells.now result.0 (result.0 + result.1)) in
-        map under rest ≡ rest }
+    ensures cells { map untagged (slice_range cells.now result.0 (result.0 + result.1)) ≡
+        part_between (table_cells cells.now given) number }
+    ensures others { let tagged = given.start + given.commas in
+        let rest = drop (tagged - result.0) (slice_range cells.now result.0 (result.0 + result.1)) in
+        map untagged rest ≡ rest }
 {
     let place = number.wrapping_sub(1) as usize;
     if place > given.commas {
@@ -224,30 +224,30 @@ fn part_numbered(cells: &[Cell], number: u32, given: Given) -> (usize, usize)
 
 // Where the part behind `place` comma marks begins, counted from the first of the given cells.
 #[inline(always)]
-fn part_begin(cells: &[Cell], place: usize, given: Given) -> usize
+fn part_begin(cells: &[Cell], place: usize, given: ArgumentTable) -> usize
     requires place { place ≤ given.commas }
-    requires given { AreGiven cells.now given }
-    ensures { let parts = parts_at 0 0 (given_cells cells.now given) in
+    requires given { IsArgumentTable cells.now given }
+    ensures { let parts = parts_at 0 0 (table_cells cells.now given) in
         result ≡ (numbered_part parts (suc place)).0 }
 {
     if place == 0 {
         return 0;
     }
-    number_over_laid(cells[given.start + place - 1]) as usize + 1
+    present_tag(cells[given.start + place - 1]) as usize + 1
 }
 
 // Where the part behind `place` comma marks ends, counted from the first of the given cells.
 #[inline(always)]
-fn part_end(cells: &[Cell], place: usize, given: Given) -> usize
+fn part_end(cells: &[Cell], place: usize, given: ArgumentTable) -> usize
     requires place { place ≤ given.commas }
-    requires given { AreGiven cells.now given }
-    ensures { let parts = parts_at 0 0 (given_cells cells.now given) in
+    requires given { IsArgumentTable cells.now given }
+    ensures { let parts = parts_at 0 0 (table_cells cells.now given) in
         result ≡ (numbered_part parts (suc place)).1 }
 {
     if place == given.commas {
         return given.len;
     }
-    number_over_laid(cells[given.start + place]) as usize
+    present_tag(cells[given.start + place]) as usize
 }
 
 // The ordinal of a gap, 0 for any other cell.

@@ -1,9 +1,9 @@
 -- What fills the gaps of a body: the texts between the comma marks of neutral.
 use Rattle.trac_store.proofs.Imports.{Bool, ◌≡◌, ℕ, zero, suc, ◌+◌, ◌-◌, ◌<◌, ◌≤◌, true, false, cond, All, List, [], ◌∷◌, ◌++◌, length, take, drop, map, get_or, nat_le, refl, sym, ap, ◌∙◌, arith, rules, subst, slice_range, ⊎_elim, cases_lt, length-map, map-append, get_or_past, get_or-map, length-between, drop_more, All-tail, All-cons, All-nil, All-get_or, places, same_lists, Cell, Byte}
-use Rattle.trac_store.proofs.Imports.{Comma, Gap, Call, IsByte, is_comma, filled, numbered_part, part_between, parts_at, flat_text, HaveNumbers, under, AreTextParts, IsTextPart, part_text, part_texts, parts_between, append_assoc, length-append, length-take-le, split_between}
+use Rattle.trac_store.proofs.Imports.{Comma, Gap, Call, IsByte, is_comma, filled, numbered_part, part_between, parts_at, flat_text, HaveTags, untagged, AreTextParts, IsTextPart, part_text, part_texts, parts_between, append_assoc, length-append, length-take-le, split_between}
 use Rattle.trac_store.proofs.Imports.{take-append-drop}
 use Rattle.trac_space.proofs.Filled.{parts-within}
-use Rattle.trac_space.proofs.LaidCommas.{Takes}
+use Rattle.trac_space.proofs.TaggedCommas.{Takes}
 use Rattle.trac_store.proofs.Filling.{filled as filled_text, part-there, part-text}
 use Rattle.trac_store.proofs.FlatLemmas.{Byte-character_of}
 
@@ -179,24 +179,24 @@ module _ (neutral : List Cell) (first end from : ℕ) (begin : IsBegin first end
   filled-flat (cell ∷ cells) = filled-flat cells
 
 -- what is under numbers that lie over the cells
-module _ (was now : List Cell) (a b : ℕ) (order : a ≤ b) (within : b ≤ length was) (numbers : HaveNumbers was now a b) where
+module _ (was now : List Cell) (a b : ℕ) (order : a ≤ b) (within : b ≤ length was) (numbers : HaveTags was now a b) where
   pub numbers-long : length now ≡ length was
   numbers-long =
       let mid = slice_range now a b in
       let whole = ap length (split_between now a b order) ∙ length-append (take a now) (mid ++ drop b now) ∙ ap (λ n. length (take a now) + n) (length-append mid (drop b now)) in
-      omega (arith, whole, ap length numbers, length-append (take a now ++ map under mid) (drop b now), length-append (take a now) (map under mid), length-map mid under)
+      omega (arith, whole, ap length numbers, length-append (take a now ++ map untagged mid) (drop b now), length-append (take a now) (map untagged mid), length-map mid untagged)
 
-  pub under-numbers : map under (slice_range now a b) ≡ slice_range was a b
-  under-numbers =
+  pub untagged-numbers : map untagged (slice_range now a b) ≡ slice_range was a b
+  untagged-numbers =
       let size = numbers-long in
-      let mid = map under (slice_range now a b) in
-      let long : length mid ≡ b - a = length-map (slice_range now a b) under ∙ length-between now a b (omega (arith, within, size)) in
+      let mid = map untagged (slice_range now a b) in
+      let long : length mid ≡ b - a = length-map (slice_range now a b) untagged ∙ length-between now a b (omega (arith, within, size)) in
       let front : length (take a now) ≡ a = length-take-le a now (omega (arith, order, within, size)) in
       let middle : slice_range (take a now ++ mid ++ drop b now) a b ≡ mid = same_lists _ _ (search (rules, places)) (λ i d less. grind (arith, places)) in
       sym middle ∙ ap (λ l. slice_range l a b) numbers
 
 -- only the first of the cells have numbers
-pub numbers-fewer : (was now : List Cell) (a b n : ℕ) → a ≤ b → b ≤ length was → HaveNumbers was now a b → n ≤ length (slice_range now a b) → map under (drop n (slice_range now a b)) ≡ drop n (slice_range now a b) → HaveNumbers was now a (a + n)
+pub numbers-fewer : (was now : List Cell) (a b n : ℕ) → a ≤ b → b ≤ length was → HaveTags was now a b → n ≤ length (slice_range now a b) → map untagged (drop n (slice_range now a b)) ≡ drop n (slice_range now a b) → HaveTags was now a (a + n)
 numbers-fewer was now a b n order within numbers few others =
     let size = numbers-long was now a b order within numbers in
     let part = slice_range now a b in
@@ -205,9 +205,9 @@ numbers-fewer was now a b n order within numbers few others =
     let inside : b ≤ length now = omega (arith, within, size) in
     let front : slice_range now a (a + n) ≡ take n part = same_lists _ _ (search (rules, places)) (λ i d less. grind (arith, places)) in
     let rest : drop (a + n) now ≡ drop n part ++ drop b now = same_lists _ _ (search (rules, places)) (λ i d less. grind (arith, places)) in
-    let whole : map under part ≡ map under (take n part) ++ drop n part = ap (map under) (sym (take-append-drop n part)) ∙ map-append under (take n part) (drop n part) ∙ ap (λ l. map under (take n part) ++ l) others in
-    ap (λ l. take a now ++ map under l ++ drop (a + n) now) front
-    ∙ ap (λ l. take a now ++ map under (take n part) ++ l) rest
-    ∙ sym (append_assoc (take a now ++ map under (take n part)) (drop n part) (drop b now))
-    ∙ ap (λ l. l ++ drop b now) (append_assoc (take a now) (map under (take n part)) (drop n part) ∙ ap (λ l. take a now ++ l) (sym whole))
+    let whole : map untagged part ≡ map untagged (take n part) ++ drop n part = ap (map untagged) (sym (take-append-drop n part)) ∙ map-append untagged (take n part) (drop n part) ∙ ap (λ l. map untagged (take n part) ++ l) others in
+    ap (λ l. take a now ++ map untagged l ++ drop (a + n) now) front
+    ∙ ap (λ l. take a now ++ map untagged (take n part) ++ l) rest
+    ∙ sym (append_assoc (take a now ++ map untagged (take n part)) (drop n part) (drop b now))
+    ∙ ap (λ l. l ++ drop b now) (append_assoc (take a now) (map untagged (take n part)) (drop n part) ∙ ap (λ l. take a now ++ l) (sym whole))
     ∙ numbers

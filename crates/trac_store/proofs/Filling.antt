@@ -13,17 +13,17 @@ abbrev pub filled : List Text → List Cell → Text
 filled given cells = fill given (map item_of cells)
 
 -- characters alone are their text, which stands as they do and is as long
-filled-plain : (given : List Text) (cells : List Cell) → All IsByte cells → filled given cells ≡ text_of_cells cells
-filled-plain given [] h = refl
-filled-plain given (Byte c ∷ cells) h = ap (λ text. c ∷ text) (filled-plain given cells (All-tail IsByte (Byte c) cells h))
-filled-plain given (cell ∷ cells) h = absurd (All-head IsByte cell cells h)
+filled-no_comma_from : (given : List Text) (cells : List Cell) → All IsByte cells → filled given cells ≡ text_of_cells cells
+filled-no_comma_from given [] h = refl
+filled-no_comma_from given (Byte c ∷ cells) h = ap (λ text. c ∷ text) (filled-no_comma_from given cells (All-tail IsByte (Byte c) cells h))
+filled-no_comma_from given (cell ∷ cells) h = absurd (All-head IsByte cell cells h)
 
-pub plain-flat : (given : List Text) (cells : List Cell) → All IsByte cells → flat_text (filled given cells) ≡ cells
-plain-flat given cells h = ap flat_text (filled-plain given cells h) ∙ Byte-character_of cells h
+pub no_comma_from-flat : (given : List Text) (cells : List Cell) → All IsByte cells → flat_text (filled given cells) ≡ cells
+no_comma_from-flat given cells h = ap flat_text (filled-no_comma_from given cells h) ∙ Byte-character_of cells h
 
-pub plain-length : (given : List Text) (store : List Cell) (at end : ℕ) → end ≤ length store → All IsByte (slice_range store at end) → length (filled given (slice_range store at end)) ≡ end - at
-plain-length given store at end within h =
-    ap length (filled-plain given (slice_range store at end) h) ∙ length-map (slice_range store at end) character_of ∙ length-between store at end within
+pub no_comma_from-length : (given : List Text) (store : List Cell) (at end : ℕ) → end ≤ length store → All IsByte (slice_range store at end) → length (filled given (slice_range store at end)) ≡ end - at
+no_comma_from-length given store at end within h =
+    ap length (filled-no_comma_from given (slice_range store at end) h) ∙ length-map (slice_range store at end) character_of ∙ length-between store at end within
 
 -- the items of a body from a place on, as they stand in the store
 pub body-items : (store : List Cell) (body : List Item) (at from : ℕ) → from ≤ length body → slice_range store at (at + length body) ≡ map flat_item body → map item_of (slice_range store (at + from) (at + length body)) ≡ drop from body

@@ -94,11 +94,11 @@ moved s put after more from len is then =
     let store = ap (λ v. v.store) is in
     let neutral = ap (λ v. v.neutral) is in
     let active = ap (λ v. v.active) is in
-    let spare = ap (λ v. v.spare) is in
+    let index_area = ap (λ v. v.index_area) is in
     let room = ap (λ v. v.room) is in
     let tail = drop_at s.neutral more from (sym len) in
     let front = take_at s.neutral more from (sym len) in
-    then ∙ rw (store, neutral, active, spare, room, tail, front)
+    then ∙ rw (store, neutral, active, index_area, room, tail, front)
 
 -- how many cells a new form has
 pub length-new_form : (string : List Cell) (a b from to : ℕ) → b ≤ length string → to ≤ length string → form_cells (new_form string a b from to) ≡ 3 + (b - a) + (to - from)

@@ -27,14 +27,14 @@ pub use Rattle.trac_space.proofs.Characters.{tested-seen}
 pub use Rattle.trac_space.proofs.Runs.{character-seen}
 pub use Rattle.trac_space.specs.Cells.{IsNoCall, NoCall, is_call, is_comma, seen}
 pub use Rattle.trac_space.specs.Filled.{HaveCommas, filled, filling, numbered_part, part_between, parts_at}
-pub use Rattle.trac_space.specs.Lists.{FitsBesideSpare, Lists, used, claimed}
-pub use Rattle.trac_space.specs.Overlay.{HaveNumbers, over, takes_number, under}
+pub use Rattle.trac_space.specs.Lists.{FitsBesideIndex, Lists, used, reserved}
+pub use Rattle.trac_space.specs.Tags.{HaveTags, tag_of, takes_tag, untagged}
 pub use Rattle.trac_space.specs.Texts.{IsByte, byte_cell_at, character_of, flat_text, is_byte_cell, text_of_cells}
 pub use Rattle.trac_space.specs.declared.cell.Cell.{Cell}
 pub use Rattle.trac_space.specs.declared.cell.Cell.TheVariants.{Byte, Call, Comma, Gap, Head}
 pub use Rattle.trac_store.specs.declared.located.Located.{Located}
 pub use Rattle.trac_store.specs.Arguments.{IsHeadAt, before_comma, filled_cells, parts_between, texts_between}
-pub use Rattle.trac_store.specs.Borders.{AreLaid, GoesOn, HaveBorders, IsBorder, IsLongestBorder, IsNextBorder, byte_at, laid_text}
+pub use Rattle.trac_store.specs.Borders.{AreTagged, GoesOn, HaveBorders, IsBorder, IsLongestBorder, IsNextBorder, byte_at, tagged_text}
 pub use Rattle.trac_store.specs.FlatForms.{flat_form, flat_forms, flat_item}
 pub use Rattle.trac_store.specs.Forms.{IsNamedAt, body_at, form_at, name_at, pointer_at}
 pub use Rattle.trac_store.specs.Gaps.{begins_cells, gap_cell_at, gap_number, gap_ordinal, is_byte, is_gap_cell, segment_cells, segmented_cells, text_cells_at}

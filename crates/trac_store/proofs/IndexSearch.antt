@@ -1,6 +1,6 @@
 -- A search by the table.
 use Rattle.trac_store.proofs.Imports.{◌≡◌, ◌≢◌, ℕ, zero, suc, ◌+◌, ◌-◌, ◌*◌, ◌/◌, ◌<◌, ◌≤◌, true, false, List, [], ◌∷◌, length, map, set, take, get_or, Bool, inl, inr, if◌then◌else◌, nat_le, refl, subst, sym, ap, ◌∙◌, arith, ⊎_elim, bit_and, and_le_r, false≢true, cases_lt, length-map}
-use Rattle.trac_store.proofs.Imports.{length-append, length-set, get_or-map, Text, Form, NoneNamed, Cell, Byte, Head, seen, Lists, used, claimed, flat_form, flat_forms, name_at, form_at, start_of, IsIndexed, IsKept, hash, quarter, slots, slot, start_place, cell_at, is_blank, IsIndex}
+use Rattle.trac_store.proofs.Imports.{length-append, length-set, get_or-map, Text, Form, NoneNamed, Cell, Byte, Head, seen, Lists, used, reserved, flat_form, flat_forms, name_at, form_at, start_of, IsIndexed, IsKept, hash, quarter, slots, slot, start_place, cell_at, is_blank, IsIndex}
 use Rattle.trac_store.proofs.TableChanges.{index-renamed}
 
 pub NoneNamed-from : (name : Text) (forms : List Form) → ((k : ℕ) → k < length forms → name_at forms k ≢ name) → NoneNamed name forms
@@ -54,7 +54,7 @@ pub held-at : (table : List Cell) (forms : List Form) → IsIndex table forms �
 held-at table forms index s k less is =
     let h = index.only s k less is in
     let e = index.all k h.within h.there in
-    (h.within, e.1.1.begins, omega (arith, h.within, index.roomy))
+    (h.within, e.1.1.begins, omega (arith, h.within, index.overflow))
 
 -- a spare list that is kept or let go
 pub index-kept : (was now : List Cell) (forms : List Form) → IsKept was now → IsIndexed was forms → IsIndexed now forms
@@ -65,8 +65,8 @@ kept-if : (b : Bool) (xs : List Cell) → IsKept xs (if b then xs else [])
 kept-if true xs = inl refl
 kept-if false xs = inr refl
 
-pub claimed-kept : (n : ℕ) (s : Lists) → IsKept s.spare (claimed n s).spare
-claimed-kept n s = kept-if (nat_le (used s + n + length s.spare) s.room) s.spare
+pub reserved-kept : (n : ℕ) (s : Lists) → IsKept s.index_area (reserved n s).index_area
+reserved-kept n s = kept-if (nat_le (used s + n + length s.index_area) s.room) s.index_area
 
 -- another form of the same name and length at place k
 pub name-set : (new : Form) (forms : List Form) (k j : ℕ) → new.name ≡ (form_at forms k).name → name_at (set forms k new) j ≡ name_at forms j

@@ -8,7 +8,7 @@ pub mod Gaps
 pub mod HeadCells
 pub mod IndexSearch
 pub mod Items
-pub mod LaidBorders
+pub mod TaggedBorders
 pub mod Places
 pub mod Searches
 pub mod Segments

@@ -49,7 +49,7 @@ module _ (table now : List Cell) (long : length now ≡ length table) (full : (x
   -- the changed table is one of the forms if each has its entry, and each number in a slot is that of one
   index-now : (n gap : ℕ) (name : ℕ → Text) (start : ℕ → ℕ) → n ≤ quarter table → ((k : ℕ) → k < n → k ≢ gap → HasEntryThen table now (name k) (start k) k) → ((s k : ℕ) → s < slots table → cell_at now s ≡ Head k → (k < n) × (k ≢ gap) × (cell_at now (home_place table k) ≡ Head s)) → IsIndexBut now n gap name start
   index-now n gap name start fits all only = record {
-    roomy = omega (arith, fits, ap (λ n. n / 4) long);
+    overflow = omega (arith, fits, ap (λ n. n / 4) long);
     all = λ k within there.
         let h = all k within there in
         let e = h.1.1 in
@@ -157,7 +157,7 @@ module _ (table : List Cell) (n k s after : ℕ) (name : ℕ → Text) (start : 
 
   pub index-bury : IsIndexBut (set table s Comma) n k name start
   index-bury =
-      index-now table _ (length-set table s Comma) bury_full n k name start index.roomy
+      index-now table _ (length-set table s Comma) bury_full n k name start index.overflow
       (λ j less differs.
       let old = index.all j less (λ e. absurd (omega (arith, e, less))) in
       let e = old.1.1 in
@@ -181,13 +181,13 @@ module _ (table : List Cell) (n k begin : ℕ) (name : ℕ → Text) (start star
   begin_other x differs = get_or-set_other table (start_place table k) x (Head begin) (Byte 0) differs
 
   begin_same : cell_at (set table (start_place table k) (Head begin)) (start_place table k) ≡ Head begin
-  begin_same = get_or-set_same table (start_place table k) (Head begin) (Byte 0) (omega (arith, within, index.roomy))
+  begin_same = get_or-set_same table (start_place table k) (Head begin) (Byte 0) (omega (arith, within, index.overflow))
 
   begin_full : (x : ℕ) → x < slots table → is_blank (cell_at table x) ≡ false → is_blank (cell_at (set table (start_place table k) (Head begin)) x) ≡ false
   begin_full x x_in full = ap is_blank (begin_other x (λ e. absurd (omega (arith, e, x_in)))) ∙ full
 
   begin_home : (j : ℕ) → cell_at (set table (start_place table k) (Head begin)) (home_place table j) ≡ cell_at table (home_place table j)
-  begin_home j = begin_other (home_place table j) (λ e. absurd (omega (arith, e, within, index.roomy)))
+  begin_home j = begin_other (home_place table j) (λ e. absurd (omega (arith, e, within, index.overflow)))
 
   begin_begins : (j : ℕ) → j < n → cell_at table (start_place table j) ≡ Head (start j) → cell_at (set table (start_place table k) (Head begin)) (start_place table j) ≡ Head (start2 j)
   begin_begins j less begins =
@@ -198,7 +198,7 @@ module _ (table : List Cell) (n k begin : ℕ) (name : ℕ → Text) (start star
 
   pub index-begin : IsIndexBut (set table (start_place table k) (Head begin)) n n name start2
   index-begin =
-      index-now table _ (length-set table (start_place table k) (Head begin)) begin_full n n name start2 index.roomy
+      index-now table _ (length-set table (start_place table k) (Head begin)) begin_full n n name start2 index.overflow
       (λ j less there.
       let old = index.all j less there in
       let e = old.1.1 in
@@ -211,7 +211,7 @@ module _ (table : List Cell) (n k begin : ℕ) (name : ℕ → Text) (start star
 -- the same forms, under other words
 pub index-as : (table : List Cell) (n g n2 g2 : ℕ) (name name2 : ℕ → Text) (start start2 : ℕ → ℕ) → n2 ≤ quarter table → ((k : ℕ) → k < n2 → k ≢ g2 → (k < n) × (k ≢ g) × (name2 k ≡ name k) × (start2 k ≡ start k)) → ((k : ℕ) → k < n → k ≢ g → (k < n2) × (k ≢ g2)) → IsIndexBut table n g name start → IsIndexBut table n2 g2 name2 start2
 index-as table n g n2 g2 name name2 start start2 fits olds news index = record {
-  roomy = fits;
+  overflow = fits;
   all = λ k within there.
       let o = olds k within there in
       let old = index.all k o.0 o.1 in
@@ -225,6 +225,6 @@ index-as table n g n2 g2 name name2 start start2 fits olds news index = record {
 -- where no form is left out
 pub index-renamed : (table : List Cell) (n n2 : ℕ) (name name2 : ℕ → Text) (start start2 : ℕ → ℕ) → n2 ≡ n → ((k : ℕ) → k < n2 → (name2 k ≡ name k) × (start2 k ≡ start k)) → IsIndexBut table n n name start → IsIndexBut table n2 n2 name2 start2
 index-renamed table n n2 name name2 start start2 size same index =
-    index-as table n n n2 n2 name name2 start start2 (omega (arith, size, index.roomy))
+    index-as table n n n2 n2 name name2 start start2 (omega (arith, size, index.overflow))
     (λ k within there. (omega (arith, size, within), λ e. absurd (omega (arith, e, size, within)), (same k within).0, (same k within).1))
     (λ k within there. (omega (arith, size, within), λ e. absurd (omega (arith, e, size, within)))) index

@@ -4,7 +4,7 @@ use Rattle.std.specs.Prelude.{slice_range, slice_index_or}
 use Rattle.trac_language.specs.Text.{Text}
 use Rattle.trac_space.specs.declared.cell.Cell.{Cell}
 use Rattle.trac_space.specs.declared.cell.Cell.TheVariants.{Byte}
-use Rattle.trac_space.specs.Overlay.{under, over, HaveNumbers}
+use Rattle.trac_space.specs.Tags.{untagged, tag_of, HaveTags}
 use Rattle.trac_space.specs.Texts.{character_of}
 use Rattle.trac_store.specs.Gaps.{is_byte}
 use Rattle.trac_store.specs.Parts.{part_text}
@@ -25,27 +25,27 @@ pub record IsLongestBorder (text : List ℕ) (n b : ℕ) : Type 0 where
   pub longest : (c : ℕ) → c < n → IsBorder text n c → c ≤ b
 
 -- the text under numbers
-abbrev pub laid_text : List Cell → Text
-laid_text cells = map (λ cell. character_of (under cell)) cells
+abbrev pub tagged_text : List Cell → Text
+tagged_text cells = map (λ cell. character_of (untagged cell)) cells
 
 -- over each of the first `count` cells of a text lies the longest border of the beginning that ends there
 abbrev pub HaveBorders : List Cell → ℕ → Type 0
 HaveBorders cells count =
     (n : ℕ) → 0 < n → n ≤ count
-    → IsLongestBorder (laid_text cells) n (over (slice_index_or cells (n - 1) (Byte 0)))
+    → IsLongestBorder (tagged_text cells) n (tag_of (slice_index_or cells (n - 1) (Byte 0)))
 
 -- a text that isn't null stands from a up to b, and over each of its cells lies the longest border of the
 -- beginning that ends there
-pub record IsLaidText (string : List Cell) (a b : ℕ) : Type 0 where
+pub record IsTaggedText (string : List Cell) (a b : ℕ) : Type 0 where
   pub some : a < b
   pub within : b ≤ length string
   pub borders : HaveBorders (slice_range string a b) (length (slice_range string a b))
 
 -- over each cell of the text from a up to b lies the longest border of the beginning that ends there, and
 -- nothing else has changed
-pub record AreLaid (was now : List Cell) (a b : ℕ) : Type 0 where
-  pub numbers : HaveNumbers was now a b
-  pub text : laid_text (slice_range now a b) ≡ part_text was a b
+pub record AreTagged (was now : List Cell) (a b : ℕ) : Type 0 where
+  pub numbers : HaveTags was now a b
+  pub text : tagged_text (slice_range now a b) ≡ part_text was a b
   pub borders : HaveBorders (slice_range now a b) (b - a)
   pub long : length now ≡ length was
 

@@ -81,7 +81,7 @@ pub record IsHeld (table : List Cell) (n gap k s : ℕ) : Type 0 where
 -- each of the first n forms but form `gap` has its entry, and each form in a slot is one of these
 pub record IsIndexBut
     (table : List Cell) (n gap : ℕ) (name : ℕ → Text) (start : ℕ → ℕ) : Type 0 where
-  pub roomy : n ≤ quarter table
+  pub overflow : n ≤ quarter table
   pub all : (k : ℕ) → k < n → k ≢ gap → HasEntry table (name k) (start k) k
   pub only : (s k : ℕ) → s < slots table → cell_at table s ≡ Head k → IsHeld table n gap k s
 

@@ -2,13 +2,13 @@
 //! the text is a shorter beginning that also ends it; where the text doesn't go on, the search goes on
 //! from the border. The lengths of the borders lie over the cells of the text while the search runs.
 ghost use Rattle.std.specs.Prelude.{◌≡◌, ◌≤◌, ◌<◌, ◌-◌, length, MatchOption};
-ghost use Rattle.trac_store.specs.Borders.{laid_text, HaveBorders, AreLaid, IsNextBorder};
+ghost use Rattle.trac_store.specs.Borders.{tagged_text, HaveBorders, AreTagged, IsNextBorder};
 ghost use Rattle.trac_store.specs.Gaps.{text_cells_at};
 ghost use Rattle.trac_store.specs.Parts.{IsTextPart};
 ghost use Rattle.trac_store.specs.Search.{NonePasses, IsFirst};
 
 use crate::gap_making::is_same_byte;
-use trac_space::{Cell, Part, Space, cell_under, laid, number_over};
+use trac_space::{Cell, Part, Space, tag_or_zero, tagged, untagged_cell};
 
 // The length of the longest beginning of the text that ends with `cell`, if the longest one that ends
 // just before it has `before` characters.
@@ -17,14 +17,14 @@ fn next_border(text: &[Cell], before: u32, cell: Cell) -> u32
     requires within { before < length text.now }
     requires bounded { length text.now ≤ 16777216 }
     requires borders { HaveBorders text.now before }
-    ensures { IsNextBorder (laid_text text.now) before cell result }
+    ensures { IsNextBorder (tagged_text text.now) before cell result }
 {
     let mut border = before;
-    while !is_same_byte(cell, cell_under(text[border as usize])) {
+    while !is_same_byte(cell, untagged_cell(text[border as usize])) {
         if border == 0 {
             return 0;
         }
-        border = number_over(text[border as usize - 1]);
+        border = tag_or_zero(text[border as usize - 1]);
     }
     border + 1
 }
@@ -37,7 +37,7 @@ pub(crate) fn first_place(cells: &[Cell], from: u32, text: &[Cell]) -> Option<u3
     requires some { 0 < length text.now }
     requires text_bounded { length text.now ≤ 16777216 }
     requires borders { HaveBorders text.now (length text.now) }
-    ensures { let bytes = laid_text text.now in
+    ensures { let bytes = tagged_text text.now in
         MatchOption result
         (NonePasses (text_cells_at bytes cells.now) from (length cells.now))
         (λ place. IsFirst (text_cells_at bytes cells.now) from (length cells.now) place) }
@@ -54,10 +54,10 @@ pub(crate) fn first_place(cells: &[Cell], from: u32, text: &[Cell]) -> Option<u3
 
 // Lays the length of the longest border of each beginning of a text, a part of neutral, over the last
 // cell of that beginning.
-pub(crate) fn lay_borders(space: &mut Space, part: Part)
+pub(crate) fn tag_borders(space: &mut Space, part: Part)
     requires text_part { IsTextPart space.old.neutral part.from part.to }
     requires some { part.from < part.to }
-    ensures laid { AreLaid space.old.neutral space.new.neutral part.from part.to }
+    ensures tagged { AreTagged space.old.neutral space.new.neutral part.from part.to }
     ensures same { space.new ≡ record space.old { neutral = space.new.neutral } }
 {
     // The lists fit in the block.
@@ -67,6 +67,6 @@ pub(crate) fn lay_borders(space: &mut Space, part: Part)
         let text = space.neutral_part(part.from, part.to);
         let cell = text[count as usize];
         border = next_border(text, border, cell);
-        space.write_neutral(part.from + count, laid(cell, border));
+        space.write_neutral(part.from + count, tagged(cell, border));
     }
 }

@@ -2,12 +2,12 @@
 ghost use Rattle.std.specs.Prelude.{◌≡◌, ◌+◌, ◌-◌, ◌≤◌, ◌++◌, length, take, drop};
 ghost use Rattle.std.specs.Prelude.{slice_range, MatchOption};
 ghost use Rattle.trac_space.specs.Texts.{character_of};
-ghost use Rattle.trac_store.specs.Borders.{laid_text, IsLaidText};
+ghost use Rattle.trac_store.specs.Borders.{tagged_text, IsTaggedText};
 ghost use Rattle.trac_store.specs.Parts.{IsPart, IsTextPart, part_text};
 ghost use Rattle.trac_store.specs.Gaps.{is_byte, text_cells_at, segment_cells, segmented_cells};
 ghost use Rattle.trac_store.specs.Search.{NonePasses, IsFirst};
 
-use crate::borders::{first_place, lay_borders};
+use crate::borders::{first_place, tag_borders};
 use trac_space::{Cell, Part, Space};
 
 // Whether `cell` is a character, the one that `byte` holds.
@@ -26,8 +26,8 @@ pub(crate) fn is_same_byte(cell: Cell, byte: Cell) -> bool
 // text lie over it.
 fn next_place(space: &Space, body: Part, text: Part) -> Option<u32>
     requires body { IsPart space.now.store body.from body.to }
-    requires text { IsLaidText space.now.neutral text.from text.to }
-    ensures { let bytes = laid_text (slice_range space.now.neutral text.from text.to) in
+    requires text { IsTaggedText space.now.neutral text.from text.to }
+    ensures { let bytes = tagged_text (slice_range space.now.neutral text.from text.to) in
         let cells = slice_range space.now.store body.from body.to in
         MatchOption result
         (NonePasses (text_cells_at bytes cells) 0 (length cells))
@@ -47,13 +47,13 @@ fn next_place(space: &Space, body: Part, text: Part) -> Option<u32>
 // part. The borders of the text lie over it.
 fn make_gaps(space: &mut Space, body: Part, text: Part, ordinal: u32) -> u32
     requires body { IsPart space.old.store body.from body.to }
-    requires text { IsLaidText space.old.neutral text.from text.to }
-    ensures after { let bytes = laid_text (slice_range space.old.neutral text.from text.to) in
+    requires text { IsTaggedText space.old.neutral text.from text.to }
+    ensures after { let bytes = tagged_text (slice_range space.old.neutral text.from text.to) in
         let gapped = segment_cells bytes ordinal 0 (slice_range space.old.store body.from body.to) in
         space.new ≡ record space.old {
           store = take body.from space.old.store ++ gapped ++ drop body.to space.old.store;
         } }
-    ensures end { let bytes = laid_text (slice_range space.old.neutral text.from text.to) in
+    ensures end { let bytes = tagged_text (slice_range space.old.neutral text.from text.to) in
         let gapped = segment_cells bytes ordinal 0 (slice_range space.old.store body.from body.to) in
         result ≡ body.from + length gapped }
     ensures shorter { result ≤ body.to }
@@ -95,8 +95,8 @@ pub fn segment_store(space: &mut Space, body: Part, text: Part, ordinal: u32) ->
     if text.from == text.to {
         return body.to;
     }
-    lay_borders(space, text);
+    tag_borders(space, text);
     let end = make_gaps(space, body, text, ordinal);
-    space.lift_neutral(text.from, text.to);
+    space.clear_neutral_tags(text.from, text.to);
     end
 }

@@ -4,8 +4,8 @@ ghost use Rattle.std.specs.Prelude.{length, map, slice_range, All, IsTrue, Match
 ghost use Rattle.std.specs.Bool.{OnTrue, OnFalse};
 ghost use Rattle.trac_space.specs.Cells.{NoCall, NoComma};
 ghost use Rattle.trac_space.specs.Filled.{HaveCommas, filled};
-ghost use Rattle.trac_space.specs.Lists.{used as cells_used, claimed};
-ghost use Rattle.trac_space.specs.Overlay.{under};
+ghost use Rattle.trac_space.specs.Lists.{used as cells_used, reserved};
+ghost use Rattle.trac_space.specs.Tags.{untagged};
 ghost use Rattle.trac_space.specs.Texts.{flat_text, IsByte};
 ghost use Rattle.trac_store.specs.Arguments.{AreParted, filled_cells};
 ghost use Rattle.trac_store.specs.Index.{IsKept};
@@ -14,24 +14,24 @@ use trac_space::{Part, Space};
 
 /// Copies items of the store to the front of active, each gap k replaced by argument k: the k-th, from 1,
 /// of the texts between the comma marks of a part of neutral, or nothing if there is no such text (Mooers
-/// 1966). No comma mark stands in that part from place `plain` on. Gives how many characters the copy has.
+/// 1966). No comma mark stands in that part from place `no_comma_from` on. Gives how many characters the copy has.
 /// None if it doesn't fit; then at most the spare list has been dropped.
 #[inline(always)]
-pub fn fill_items(space: &mut Space, items: Part, texts: Part, plain: u32) -> Option<u32>
+pub fn fill_items(space: &mut Space, items: Part, texts: Part, no_comma_from: u32) -> Option<u32>
     requires order { items.from ≤ items.to }
     requires within { items.to ≤ length space.old.store }
     requires arguments { AreParted space.old.neutral texts.from texts.to }
-    requires plain { NoComma (slice_range space.old.neutral plain texts.to) }
+    requires no_comma_from { NoComma (slice_range space.old.neutral no_comma_from texts.to) }
     ensures filled { let text = filled_cells space.old items.from items.to texts.from texts.to in
         MatchOption result
-        ((space.new ≡ record space.old { spare = space.new.spare })
+        ((space.new ≡ record space.old { index_area = space.new.index_area })
         × (space.old.room < cells_used space.old + length text))
         (λ n. (length text ≡ n) × (cells_used space.old + n ≤ space.old.room)
         × (space.new ≡ record space.old {
           active = flat_text text ++ space.old.active;
-          spare = space.new.spare;
+          index_area = space.new.index_area;
         })) }
-    ensures kept { IsKept space.old.spare space.new.spare }
+    ensures kept { IsKept space.old.index_area space.new.index_area }
 {
     // A form that is called without arguments mostly has no gaps.
     if texts.to < texts.from {
@@ -40,7 +40,7 @@ pub fn fill_items(space: &mut Space, items: Part, texts: Part, plain: u32) -> Op
             return loaded;
         }
     }
-    fill_gaps(space, items, texts, plain)
+    fill_gaps(space, items, texts, no_comma_from)
 }
 
 // Copies items of the store to the front of active if all of them are characters and fit, and gives how
@@ -52,16 +52,16 @@ fn load_items(space: &mut Space, items: Part) -> Option<u32>
     ensures { let cells = slice_range space.old.store items.from items.to in
         MatchOption result (space.new ≡ space.old)
         (λ n. All IsByte cells × (items.from + n ≡ items.to) × (cells_used space.old + n ≤ space.old.room)
-        × (space.new ≡ record (claimed n space.old) { active = cells ++ space.old.active })) }
+        × (space.new ≡ record (reserved n space.old) { active = cells ++ space.old.active })) }
 {
     // The lists fit in the block.
-    prove!(space.free_beside_spare() <= space.room());
+    prove!(space.free_beside_index() <= space.room());
     let size = items.to - items.from;
     if size == 0 {
         return Some(0);
     }
-    if space.free_beside_spare() < size {
-        return load_items_over_spare(space, items);
+    if space.free_beside_index() < size {
+        return load_items_over_index(space, items);
     }
     if space.load_characters(items.from, items.to) {
         Some(size)
@@ -72,19 +72,19 @@ fn load_items(space: &mut Space, items: Part) -> Option<u32>
 
 // Does what `load_items` does where the items don't fit beside the spare list.
 #[inline(never)]
-fn load_items_over_spare(space: &mut Space, items: Part) -> Option<u32>
+fn load_items_over_index(space: &mut Space, items: Part) -> Option<u32>
     requires order { items.from ≤ items.to }
     requires within { items.to ≤ length space.old.store }
     ensures { let cells = slice_range space.old.store items.from items.to in
         MatchOption result (space.new ≡ space.old)
         (λ n. All IsByte cells × (items.from + n ≡ items.to) × (cells_used space.old + n ≤ space.old.room)
-        × (space.new ≡ record (claimed n space.old) { active = cells ++ space.old.active })) }
+        × (space.new ≡ record (reserved n space.old) { active = cells ++ space.old.active })) }
 {
     let size = items.to - items.from;
     if space.characters_from(items.from, items.to) < size || space.free() < size {
         return None;
     }
-    space.claim(size);
+    space.reserve(size);
     space.load_from_store(items.from, items.to);
     Some(size)
 }
@@ -92,30 +92,30 @@ fn load_items_over_spare(space: &mut Space, items: Part) -> Option<u32>
 // Does what `fill_items` does where gaps may be among the items. Meanwhile the places of the comma marks
 // lie over the texts.
 #[inline(never)]
-fn fill_gaps(space: &mut Space, items: Part, texts: Part, plain: u32) -> Option<u32>
+fn fill_gaps(space: &mut Space, items: Part, texts: Part, no_comma_from: u32) -> Option<u32>
     requires order { items.from ≤ items.to }
     requires within { items.to ≤ length space.old.store }
     requires arguments { AreParted space.old.neutral texts.from texts.to }
-    requires plain { NoComma (slice_range space.old.neutral plain texts.to) }
+    requires no_comma_from { NoComma (slice_range space.old.neutral no_comma_from texts.to) }
     ensures filled { let text = filled_cells space.old items.from items.to texts.from texts.to in
         MatchOption result
-        ((space.new ≡ record space.old { spare = space.new.spare })
+        ((space.new ≡ record space.old { index_area = space.new.index_area })
         × (space.old.room < cells_used space.old + length text))
         (λ n. (length text ≡ n) × (cells_used space.old + n ≤ space.old.room)
         × (space.new ≡ record space.old {
           active = flat_text text ++ space.old.active;
-          spare = space.new.spare;
+          index_area = space.new.index_area;
         })) }
-    ensures kept { IsKept space.old.spare space.new.spare }
+    ensures kept { IsKept space.old.index_area space.new.index_area }
 {
     let first = texts.from.min(texts.to);
-    let commas = space.lay_commas(first, texts.to, plain);
+    let commas = space.tag_commas(first, texts.to, no_comma_from);
     let given = Part {
         from: first,
         to: texts.to,
     };
     let loaded = load_filled(space, items, given, commas);
-    space.lift_neutral(first, first + commas);
+    space.clear_neutral_tags(first, first + commas);
     loaded
 }
 
@@ -129,22 +129,22 @@ fn load_filled(space: &mut Space, items: Part, given: Part, commas: u32) -> Opti
     requires given_order { given.from ≤ given.to }
     requires given_within { given.to ≤ length space.old.neutral }
     requires commas { HaveCommas (slice_range space.old.neutral given.from given.to) commas }
-    ensures filled { let texts = map under (slice_range space.old.neutral given.from given.to) in
+    ensures filled { let texts = map untagged (slice_range space.old.neutral given.from given.to) in
         let more = filled texts (slice_range space.old.store items.from items.to) in
         MatchOption result
-        ((space.new ≡ record space.old { spare = space.new.spare })
+        ((space.new ≡ record space.old { index_area = space.new.index_area })
         × (space.old.room < cells_used space.old + length more))
         (λ n. (length more ≡ n) × (cells_used space.old + n ≤ space.old.room)
         × (space.new ≡ record space.old {
           active = more ++ space.old.active;
-          spare = space.new.spare;
+          index_area = space.new.index_area;
         })) }
-    ensures kept { IsKept space.old.spare space.new.spare }
+    ensures kept { IsKept space.old.index_area space.new.index_area }
 {
     let loaded = space.load_filled(items.from, items.to, given.from, given.to, commas);
     if loaded.is_some() {
         return loaded;
     }
-    space.drop_spare();
+    space.drop_index_area();
     space.load_filled(items.from, items.to, given.from, given.to, commas)
 }

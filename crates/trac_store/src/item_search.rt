@@ -7,7 +7,7 @@ ghost use Rattle.trac_store.specs.Search.{NonePasses, IsFirst};
 ghost use Rattle.trac_store.specs.Search.{IsLast};
 ghost use Rattle.trac_store.specs.Gaps.{is_gap_cell, gap_cell_at, text_cells_at};
 
-use crate::borders::{first_place, lay_borders};
+use crate::borders::{first_place, tag_borders};
 use trac_space::{Cell, Part, Space, is_character};
 
 // Whether the cell is a gap.
@@ -87,9 +87,9 @@ pub fn find_text(space: &mut Space, body: Part, from: u32, part: Part) -> Option
 {
     // The lists fit in the block.
     prove!(space.used() <= space.room());
-    lay_borders(space, part);
+    tag_borders(space, part);
     let text = space.neutral_part(part.from, part.to);
     let found = first_place(space.store_part(body.from, body.to), from, text);
-    space.lift_neutral(part.from, part.to);
+    space.clear_neutral_tags(part.from, part.to);
     found
 }

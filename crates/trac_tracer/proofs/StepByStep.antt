@@ -9,7 +9,7 @@ use Rattle.trac_language.specs.Text.{Text}
 use Rattle.trac_language.specs.State.{Memory, Input}
 use Rattle.trac_language.specs.Step.{need}
 use Rattle.trac_devices.specs.Devices.{Stream}
-use Rattle.trac_core.specs.Machine.{MachineState, moment, state_of, state_with, Answers, counts_as_step, made}
+use Rattle.trac_core.specs.Machine.{MachineState, moment, state_of, state_with, Answers, counts_as_step, fresh_machine}
 use Rattle.trac_core.proofs.Moments.{OnCourse, course-none, course-more}
 use Rattle.trac_core.proofs.Reported.{course_to, report_of, reported, reports-made}
 use Rattle.trac_events.specs.Calls.{IsSeen, SeesValue, depth_in, looks_at_call, seen_call}
@@ -17,12 +17,12 @@ use Rattle.trac_events.specs.declared.call.Named.{Named}
 use Rattle.trac_core.specs.declared.machine.open_calls.CallMark.{CallMark}
 use Rattle.trac_space.specs.declared.cell.Cell.{Cell}
 use Rattle.trac_events.specs.declared.before.Before.{Before}
-use Rattle.trac_views.specs.Faults.{TellsEnd, TellsPrinted, TellsStep, TellsWhere, forms_text, is_told}
+use Rattle.trac_views.specs.Faults.{AddsEnd, AddsPrinted, AddsStep, AddsWhere, forms_text, is_shown_step}
 use Rattle.trac_views.specs.Lines.{dropped_text, end_text, folded_text, head_text}
-use Rattle.trac_views.specs.Told.{has_steps, has_strings, is_fault}
+use Rattle.trac_views.specs.CallLines.{has_steps, has_strings, is_fault}
 use Rattle.trac_views.specs.declared.views.Views.{Views}
 use Rattle.trac_tracer.specs.Last.{LastNumbers, with_step}
-use Rattle.trac_tracer.specs.ShownCalls.{IsKept, IsValueAfter, TellsCall, seen_text, step_lines}
+use Rattle.trac_tracer.specs.ShownCalls.{IsKept, IsValueAfter, AddsCall, seen_text, step_lines}
 use Rattle.trac_tracer.specs.ShownRuns.{AreLinesOf, StepDone, ShownSoFar, ShowsSteps, ShowsRun, none_shown, with_lines}
 use Rattle.trac_tracer.proofs.Framing.{framed-answers, need-later, with_peak}
 
@@ -49,7 +49,7 @@ seen-any peak m asked before seen = (
   seen.7 ∙ sym (seen_call-any (looks_at_call m asked) peak m),
 )
 
-told-any : (done : Bool) (peak same width needed : ℕ) (before : Before) (printed : Text) (m : MachineState) (old new : List ℕ) → TellsPrinted done width before needed printed (with_peak peak m) old new → TellsPrinted done width before needed printed (with_peak same m) old new
+told-any : (done : Bool) (peak same width needed : ℕ) (before : Before) (printed : Text) (m : MachineState) (old new : List ℕ) → AddsPrinted done width before needed printed (with_peak peak m) old new → AddsPrinted done width before needed printed (with_peak same m) old new
 told-any true peak same width needed before printed m old new told = told
 told-any false peak same width needed before printed m old new told = told
 
@@ -70,7 +70,7 @@ step_lines-any true views before depth arguments named deleted value printed pea
     ap (λ t. (if has_strings views then dropped_text before.drops else []) ++ t) (seen_text-any before.call views depth arguments named deleted value printed peak same m)
 step_lines-any false views before depth arguments named deleted value printed peak same m = refl
 
-calls-any : (views : Views) (before : Before) (answer : Option Fate) (depth : ℕ) (arguments : List Cell) (named : Named) (deleted printed : List ℕ) (peak same : ℕ) (m : MachineState) (old new : List ℕ) → TellsCall views before answer depth arguments named deleted printed (with_peak peak m) old new → TellsCall views before answer depth arguments named deleted printed (with_peak same m) old new
+calls-any : (views : Views) (before : Before) (answer : Option Fate) (depth : ℕ) (arguments : List Cell) (named : Named) (deleted printed : List ℕ) (peak same : ℕ) (m : MachineState) (old new : List ℕ) → AddsCall views before answer depth arguments named deleted printed (with_peak peak m) old new → AddsCall views before answer depth arguments named deleted printed (with_peak same m) old new
 calls-any views before answer depth arguments named deleted printed peak same m old new tells = (
   tells.0,
   (
@@ -79,7 +79,7 @@ calls-any views before answer depth arguments named deleted printed peak same m 
   ),
 )
 
-ends-any : (fault : Bool) (peak same width : ℕ) (m : MachineState) (old new : List ℕ) → TellsWhere fault width (with_peak peak m) old new → TellsWhere fault width (with_peak same m) old new
+ends-any : (fault : Bool) (peak same width : ℕ) (m : MachineState) (old new : List ℕ) → AddsWhere fault width (with_peak peak m) old new → AddsWhere fault width (with_peak same m) old new
 ends-any true peak same width m old new told = told
 ends-any false peak same width m old new told = told
 
@@ -101,21 +101,21 @@ pub record IsShown (views : Views) (start : MachineState) (bytes : Stream) (head
   pub course : OnCourse start bytes.bytes [] (moment (with_peak top m) s out)
   pub wrote : Appends old new (head ++ text)
 
-pub shown-none : (views : Views) (room allowance : ℕ) (bytes : Stream) (head : List ℕ) (old new : Option (List ℕ)) → Appends old new head → IsShown views (made room allowance) bytes head old new 0 (made room allowance) 0 bytes (record { numbers = []; most = views.last })
+pub shown-none : (views : Views) (room allowance : ℕ) (bytes : Stream) (head : List ℕ) (old new : Option (List ℕ)) → Appends old new head → IsShown views (fresh_machine room allowance) bytes head old new 0 (fresh_machine room allowance) 0 bytes (record { numbers = []; most = views.last })
 shown-none views room allowance bytes head old new wrote =
     record {
       count = 0;
       out = [];
       text = [];
       goes = refl;
-      course = course-none (made room allowance) bytes [];
+      course = course-none (fresh_machine room allowance) bytes [];
       wrote = subst (Appends old new) (sym (append-nil head)) wrote;
     }
 
 -- before the first step only the head was written
-pub shown-first : (views : Views) (room allowance : ℕ) (bytes : Stream) (old new : Option (List ℕ)) (top : ℕ) (m : MachineState) (depth : ℕ) (last : LastNumbers) (text : List ℕ) → m ≡ made room allowance → top ≡ 0 → depth ≡ 0 → last ≡ record { numbers = []; most = views.last } → text ≡ head_text views.calls views.forms → Appends old new (folded_text views.columns 0 text) → IsShown views (made room allowance) bytes (folded_text views.columns 0 (head_text views.calls views.forms)) old new top m depth bytes last
+pub shown-first : (views : Views) (room allowance : ℕ) (bytes : Stream) (old new : Option (List ℕ)) (top : ℕ) (m : MachineState) (depth : ℕ) (last : LastNumbers) (text : List ℕ) → m ≡ fresh_machine room allowance → top ≡ 0 → depth ≡ 0 → last ≡ record { numbers = []; most = views.last } → text ≡ head_text views.calls views.forms → Appends old new (folded_text views.columns 0 text) → IsShown views (fresh_machine room allowance) bytes (folded_text views.columns 0 (head_text views.calls views.forms)) old new top m depth bytes last
 shown-first views room allowance bytes old new top m depth last text m_is top_is depth_is last_is text_is wrote =
-    let start = made room allowance in
+    let start = fresh_machine room allowance in
     let head = folded_text views.columns 0 (head_text views.calls views.forms) in
     let written = subst (λ t. Appends old new (folded_text views.columns 0 t)) text_is wrote in
     subst (λ top. IsShown views start bytes head old new top m depth bytes last) (sym top_is)
@@ -125,29 +125,29 @@ shown-first views room allowance bytes old new top m depth last text m_is top_is
     (shown-none views room allowance bytes head old new written))))
 
 -- what was told of a step are its lines
-pub are-lines : (views looked told : Views) (m next : MachineState) (before : Before) (around depth : ℕ) (answer : Option Fate) (needed : ℕ) (arguments : List Cell) (named : Named) (deleted given printed old lines : List ℕ) → looked ≡ views → told ≡ views → given ≡ printed → old ≡ [] → IsSeen m (is_told looked m.steps && not (has_steps looked)) before → depth ≡ depth_in before next around → (is_told told before.done ≡ false → lines ≡ old) → (is_told told before.done ≡ true → has_steps told ≡ true → TellsStep told.width before needed given next old lines) → (is_told looked m.steps ≡ true → has_steps looked ≡ false → IfSome before.call (λ mark. IsKept m.memory looked.width mark arguments named deleted)) → (is_told told before.done ≡ true → has_steps told ≡ false → TellsCall told before answer depth arguments named deleted given next old lines) → AreLinesOf views (step_of m around answer needed printed next depth) lines
+pub are-lines : (views looked told : Views) (m next : MachineState) (before : Before) (around depth : ℕ) (answer : Option Fate) (needed : ℕ) (arguments : List Cell) (named : Named) (deleted given printed old lines : List ℕ) → looked ≡ views → told ≡ views → given ≡ printed → old ≡ [] → IsSeen m (is_shown_step looked m.steps && not (has_steps looked)) before → depth ≡ depth_in before next around → (is_shown_step told before.done ≡ false → lines ≡ old) → (is_shown_step told before.done ≡ true → has_steps told ≡ true → AddsStep told.width before needed given next old lines) → (is_shown_step looked m.steps ≡ true → has_steps looked ≡ false → IfSome before.call (λ mark. IsKept m.memory looked.width mark arguments named deleted)) → (is_shown_step told before.done ≡ true → has_steps told ≡ false → AddsCall told before answer depth arguments named deleted given next old lines) → AreLinesOf views (step_of m around answer needed printed next depth) lines
 are-lines views looked told m next before around depth answer needed arguments named deleted given printed old lines looked_is told_is given_is empty seen depth_is hidden tells kept calls =
-    let told_so = ap (λ v. is_told v before.done) told_is ∙ ap (is_told views) seen.0 in
+    let told_so = ap (λ v. is_shown_step v before.done) told_is ∙ ap (is_shown_step views) seen.0 in
     record {
       before = before;
       arguments = arguments;
       named = named;
       deleted = deleted;
-      seen = subst (λ views. IsSeen m (is_told views m.steps && not (has_steps views)) before) looked_is seen;
+      seen = subst (λ views. IsSeen m (is_shown_step views m.steps && not (has_steps views)) before) looked_is seen;
       depth_is = depth_is;
       hidden = λ h. hidden (told_so ∙ h) ∙ empty;
       steps = λ is_shown steps.
-          subst (λ v. TellsStep v.width before needed printed next [] lines) told_is
-          (subst (λ given. TellsStep told.width before needed given next [] lines) given_is
-          (subst (λ old. TellsStep told.width before needed given next old lines) empty
+          subst (λ v. AddsStep v.width before needed printed next [] lines) told_is
+          (subst (λ given. AddsStep told.width before needed given next [] lines) given_is
+          (subst (λ old. AddsStep told.width before needed given next old lines) empty
           (tells (told_so ∙ is_shown) (ap has_steps told_is ∙ steps))));
       kept = λ is_shown others.
           subst (λ v. IfSome before.call (λ mark. IsKept m.memory v.width mark arguments named deleted)) looked_is
-          (kept (ap (λ v. is_told v m.steps) looked_is ∙ is_shown) (ap has_steps looked_is ∙ others));
+          (kept (ap (λ v. is_shown_step v m.steps) looked_is ∙ is_shown) (ap has_steps looked_is ∙ others));
       calls = λ is_shown others.
-          subst (λ v. TellsCall v before answer depth arguments named deleted printed next [] lines) told_is
-          (subst (λ given. TellsCall told before answer depth arguments named deleted given next [] lines) given_is
-          (subst (λ old. TellsCall told before answer depth arguments named deleted given next old lines) empty
+          subst (λ v. AddsCall v before answer depth arguments named deleted printed next [] lines) told_is
+          (subst (λ given. AddsCall told before answer depth arguments named deleted given next [] lines) given_is
+          (subst (λ old. AddsCall told before answer depth arguments named deleted given next old lines) empty
           (calls (told_so ∙ is_shown) (ap has_steps told_is ∙ others))));
     }
 
@@ -164,7 +164,7 @@ told-so views top least needed found m next before depth answer printed lines sa
       hidden = told.hidden;
       steps = λ is_shown steps.
           told-any (nat_lt told.before.done next.steps) 0 least views.width needed told.before printed next [] lines
-          (subst (λ n. TellsStep views.width told.before n printed (with_peak 0 next) [] lines) (sym same) (told.steps is_shown steps));
+          (subst (λ n. AddsStep views.width told.before n printed (with_peak 0 next) [] lines) (sym same) (told.steps is_shown steps));
       kept = told.kept;
       calls = λ is_shown others. calls-any views told.before answer depth told.arguments told.named told.deleted printed 0 least next [] lines (told.calls is_shown others);
     }
@@ -217,9 +217,9 @@ module _ (views : Views) (start : MachineState) (bytes : Stream) (head : List �
 
 -- the step with which the run is over
 module _ (views : Views) (room allowance : ℕ) (bytes : Stream) (old new newer : Option (List ℕ)) (top : ℕ) (m next : MachineState) (before depth : ℕ) (s t : Stream) (last : LastNumbers) (held printed lines all : List ℕ) (no_peak : m.peak ≡ 0) (empty : held ≡ []) (room_is : m.room ≡ room) (allowance_is : m.allowance ≡ allowance) where
-  pub shown-last : (fate : Fate) (first : ℕ) (shown : IsShown views (made room allowance) bytes (folded_text views.columns 0 (head_text views.calls views.forms)) old new top m before s last) (told : AreLinesOf views (step_of m before (Some fate) next.peak printed (with_peak 0 next) depth) lines) → Answers (moment m s held) (Some fate) (moment next t printed) → TellsEnd views fate (max top next.peak) (with_peak 0 next) lines all → first ≡ slice_index_or (with_step next.steps lines last).numbers 0 1 → Appends new newer (folded_text views.columns 0 all) → (text : List ℕ) × (Appends old newer text × ShowsRun views room allowance bytes t fate first text)
+  pub shown-last : (fate : Fate) (first : ℕ) (shown : IsShown views (fresh_machine room allowance) bytes (folded_text views.columns 0 (head_text views.calls views.forms)) old new top m before s last) (told : AreLinesOf views (step_of m before (Some fate) next.peak printed (with_peak 0 next) depth) lines) → Answers (moment m s held) (Some fate) (moment next t printed) → AddsEnd views fate (max top next.peak) (with_peak 0 next) lines all → first ≡ slice_index_or (with_step next.steps lines last).numbers 0 1 → Appends new newer (folded_text views.columns 0 all) → (text : List ℕ) × (Appends old newer text × ShowsRun views room allowance bytes t fate first text)
   shown-last fate first shown told answers tells first_is wrote =
-      let start = made room allowance in
+      let start = fresh_machine room allowance in
       let head = folded_text views.columns 0 (head_text views.calls views.forms) in
       let out = shown.out in
       let here = so_far top m before s out last shown.text in
@@ -273,13 +273,13 @@ shown-on views start bytes head old new newer top more needed number m next afte
     (subst (λ after. IsShown views start bytes head old newer (max top next.peak) after depth t (with_step next.steps lines last)) (sym after_is) on))
 
 -- the last step, as it was told
-pub shown-over : (views telling : Views) (room allowance : ℕ) (bytes : Stream) (old new newer : Option (List ℕ)) (top more needed number first : ℕ) (fate : Fate) (m next after : MachineState) (before depth : ℕ) (s t : Stream) (last newest : LastNumbers) (held printed lines all : List ℕ) → m.room ≡ room → m.allowance ≡ allowance → m.peak ≡ 0 → held ≡ [] → Answers (moment m s held) (Some fate) (moment next t printed) → IsShown views (made room allowance) bytes (folded_text views.columns 0 (head_text views.calls views.forms)) old new top m before s last → AreLinesOf views (step_of m before (Some fate) needed printed after depth) lines → needed ≡ next.peak → after ≡ with_peak 0 next → more ≡ max top needed → number ≡ after.steps → newest ≡ with_step number lines last → telling ≡ views → TellsEnd telling fate more after lines all → first ≡ slice_index_or newest.numbers 0 1 → Appends new newer (folded_text views.columns 0 all) → (text : List ℕ) × (Appends old newer text × ShowsRun views room allowance bytes t fate first text)
+pub shown-over : (views telling : Views) (room allowance : ℕ) (bytes : Stream) (old new newer : Option (List ℕ)) (top more needed number first : ℕ) (fate : Fate) (m next after : MachineState) (before depth : ℕ) (s t : Stream) (last newest : LastNumbers) (held printed lines all : List ℕ) → m.room ≡ room → m.allowance ≡ allowance → m.peak ≡ 0 → held ≡ [] → Answers (moment m s held) (Some fate) (moment next t printed) → IsShown views (fresh_machine room allowance) bytes (folded_text views.columns 0 (head_text views.calls views.forms)) old new top m before s last → AreLinesOf views (step_of m before (Some fate) needed printed after depth) lines → needed ≡ next.peak → after ≡ with_peak 0 next → more ≡ max top needed → number ≡ after.steps → newest ≡ with_step number lines last → telling ≡ views → AddsEnd telling fate more after lines all → first ≡ slice_index_or newest.numbers 0 1 → Appends new newer (folded_text views.columns 0 all) → (text : List ℕ) × (Appends old newer text × ShowsRun views room allowance bytes t fate first text)
 shown-over views telling room allowance bytes old new newer top more needed number first fate m next after before depth s t last newest held printed lines all room_is allowance_is no_peak empty answers shown told needed_is after_is more_is number_is newest_is telling_is tells first_is wrote =
     let here = counted-again views m next after before depth (Some fate) needed printed lines needed_is after_is told in
     let steps : number ≡ next.steps = number_is ∙ ap (λ (a : MachineState). a.steps) after_is in
     let last_is : newest ≡ with_step next.steps lines last = newest_is ∙ ap (λ n. with_step n lines last) steps in
-    let ends = subst (λ top. TellsEnd views fate top (with_peak 0 next) lines all) (more_is ∙ ap (max top) needed_is)
-    (subst (λ after. TellsEnd views fate more after lines all) after_is
-    (subst (λ views. TellsEnd views fate more after lines all) telling_is tells)) in
+    let ends = subst (λ top. AddsEnd views fate top (with_peak 0 next) lines all) (more_is ∙ ap (max top) needed_is)
+    (subst (λ after. AddsEnd views fate more after lines all) after_is
+    (subst (λ views. AddsEnd views fate more after lines all) telling_is tells)) in
     shown-last views room allowance bytes old new newer top m next before depth s t last held printed lines all no_peak empty room_is allowance_is fate first shown here answers ends
     (first_is ∙ ap (λ (l : LastNumbers). slice_index_or l.numbers 0 1) last_is) wrote

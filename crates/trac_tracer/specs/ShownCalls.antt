@@ -10,7 +10,7 @@ use Rattle.trac_space.specs.Texts.{text_of_cells}
 use Rattle.trac_space.specs.declared.cell.Cell.{Cell}
 use Rattle.trac_core.specs.Machine.{MachineState}
 use Rattle.trac_core.specs.declared.machine.open_calls.CallMark.{CallMark}
-use Rattle.trac_events.specs.Calls.{SeesValue, argument_of, behind_mark}
+use Rattle.trac_events.specs.Calls.{SeesValue, argument_of, top_frame}
 use Rattle.trac_events.specs.Changes.{form_of, pointer_of, touched_by}
 use Rattle.trac_events.specs.declared.before.Before.{Before}
 use Rattle.trac_events.specs.declared.call.Named.{Named}
@@ -18,7 +18,7 @@ use Rattle.trac_language.specs.declared.table.Concerned.{Concerned}
 use Rattle.trac_language.specs.declared.table.Concerned.TheVariants.{Nothing, First, Each, All}
 use Rattle.trac_views.specs.Faults.{IsNeutralIn}
 use Rattle.trac_views.specs.Lines.{dropped_text}
-use Rattle.trac_views.specs.Told.{called_text, changes_text, deleted_text, form_text, has_strings}
+use Rattle.trac_views.specs.CallLines.{called_text, changes_text, deleted_text, form_text, has_strings}
 use Rattle.trac_views.specs.declared.views.Views.{Views}
 use Rattle.trac_tracer.specs.Odd.{oddity_of}
 
@@ -45,7 +45,7 @@ pub record IsKept (memory : Memory) (width : ℕ) (mark : CallMark) (arguments :
     (named : Named) (deleted : List ℕ) : Type 0 where
   pub neutral : List Cell
   pub is_neutral : IsNeutralIn memory neutral
-  pub arguments_are : arguments ≡ behind_mark neutral mark.place
+  pub arguments_are : arguments ≡ top_frame neutral mark.place
   pub function : named.function ≡ function_named (text_of_cells (argument_of arguments 0))
   pub pointer : named.pointer ≡ pointer_of (argument_of arguments 1) memory.forms
   pub deleted_is :
@@ -85,9 +85,9 @@ IsValueAfter None before m value = SeesValue m before.call before.active value
 IsValueAfter (Some fate) before m value = value ≡ []
 
 -- `new` is `old` with the lines of a step in the views of calls and of forms, by what was kept of its call
-abbrev pub TellsCall : Views → Before → Option Fate → (depth : ℕ) → List Cell → Named
+abbrev pub AddsCall : Views → Before → Option Fate → (depth : ℕ) → List Cell → Named
     → (deleted : List ℕ) → (printed : List ℕ) → MachineState → (old new : List ℕ) → Type 0
-TellsCall views before fate depth arguments named deleted printed m old new =
+AddsCall views before fate depth arguments named deleted printed m old new =
     (value : List Cell) × (IsValueAfter fate before m value
     × (new ≡ old ++ step_lines (nat_lt before.done m.steps) views before depth arguments named
     deleted value printed m))

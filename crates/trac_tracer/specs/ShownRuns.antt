@@ -7,17 +7,17 @@ use Rattle.trac_language.specs.declared.fate.Fate.{Fate}
 use Rattle.trac_space.specs.declared.cell.Cell.{Cell}
 use Rattle.trac_devices.specs.Devices.{Stream}
 use Rattle.trac_core.specs.Machine.{MachineState, Moment, moment, state_of, GoesOn, Answers, Reports}
-use Rattle.trac_core.specs.Machine.{counts_as_step, course, made}
+use Rattle.trac_core.specs.Machine.{counts_as_step, course, fresh_machine}
 use Rattle.trac_events.specs.Calls.{IsSeen, depth_in}
 use Rattle.trac_events.specs.declared.before.Before.{Before}
 use Rattle.trac_events.specs.declared.call.Named.{Named}
-use Rattle.trac_views.specs.Faults.{TellsEnd, TellsStep, is_told}
+use Rattle.trac_views.specs.Faults.{AddsEnd, AddsStep, is_shown_step}
 use Rattle.trac_views.specs.Lines.{folded_text, head_text}
-use Rattle.trac_views.specs.Told.{has_steps}
+use Rattle.trac_views.specs.CallLines.{has_steps}
 use Rattle.trac_views.specs.declared.views.Views.{Views}
 use Rattle.trac_tracer.specs.Last.{LastNumbers, with_step}
 use Rattle.trac_events.specs.Places.{first_place}
-use Rattle.trac_tracer.specs.ShownCalls.{IsKept, TellsCall}
+use Rattle.trac_tracer.specs.ShownCalls.{IsKept, AddsCall}
 use Rattle.trac_tracer.specs.declared.shown.Progress.{Progress}
 
 -- where a run that is shown stands before its first step: it has read nothing, no call is open, and no step needed
@@ -51,18 +51,18 @@ pub record AreLinesOf (views : Views) (done : StepDone) (lines : List ℕ) : Typ
   pub arguments : List Cell
   pub named : Named
   pub deleted : List ℕ
-  pub seen : IsSeen done.old (is_told views done.old.steps && not (has_steps views)) before
+  pub seen : IsSeen done.old (is_shown_step views done.old.steps && not (has_steps views)) before
   pub depth_is : done.depth ≡ depth_in before done.new done.depth_before
-  pub hidden : is_told views done.old.steps ≡ false → lines ≡ []
+  pub hidden : is_shown_step views done.old.steps ≡ false → lines ≡ []
   pub steps :
-      is_told views done.old.steps ≡ true → has_steps views ≡ true →
-      TellsStep views.width before done.needed done.printed done.new [] lines
+      is_shown_step views done.old.steps ≡ true → has_steps views ≡ true →
+      AddsStep views.width before done.needed done.printed done.new [] lines
   pub kept :
-      is_told views done.old.steps ≡ true → has_steps views ≡ false →
+      is_shown_step views done.old.steps ≡ true → has_steps views ≡ false →
       IfSome before.call (λ mark. IsKept done.old.memory views.width mark arguments named deleted)
   pub calls :
-      is_told views done.old.steps ≡ true → has_steps views ≡ false →
-      TellsCall views before done.answer done.depth arguments named deleted done.printed done.new
+      is_shown_step views done.old.steps ≡ true → has_steps views ≡ false →
+      AddsCall views before done.answer done.depth arguments named deleted done.printed done.new
       [] lines
 
 -- how far a run that is shown has come: its machine, with all that it printed; how many calls are open;
@@ -128,7 +128,7 @@ pub record ShowsLast (views : Views) (fate : Fate) (old new : ShownSoFar) : Type
   pub prints : new.at.written ≡ old.at.written ++ printed
   pub needs : counts_as_step (Some fate) ≡ true → needed ≡ need (state_of old.at)
   pub tells : AreLinesOf views (step_between old (Some fate) needed printed new) lines
-  pub ends : TellsEnd views fate new.at.machine.peak new.at.machine lines all
+  pub ends : AddsEnd views fate new.at.machine.peak new.at.machine lines all
   pub new_is : new ≡ with_lines views lines all new.at new.depth old
 
 -- `text` shows the definition's run in `room` cells and with at most `allowance` steps, over a source with
@@ -138,11 +138,11 @@ pub record ShowsRun (views : Views) (room allowance : ℕ) (old new : Stream) (f
   pub count : ℕ
   pub before : ShownSoFar
   pub after : ShownSoFar
-  pub goes : ShowsSteps views count (none_shown views (moment (made room allowance) old [])) before
+  pub goes : ShowsSteps views count (none_shown views (moment (fresh_machine room allowance) old [])) before
   pub ends : ShowsLast views fate before after
   pub left : after.at.source ≡ new
   pub reports :
-      Reports fate (course (made room allowance) old [] new after.at.written) (record {
+      Reports fate (course (fresh_machine room allowance) old [] new after.at.written) (record {
         fate = fate;
         steps = after.at.machine.steps;
         peak = after.at.machine.peak;

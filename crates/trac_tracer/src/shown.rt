@@ -4,11 +4,11 @@ ghost use Rattle.std.specs.Prelude.{if◌then◌else◌};
 ghost use Rattle.trac_events.specs.Calls.{IsSeen, depth_in};
 ghost use Rattle.trac_events.specs.Changes.{form_of};
 ghost use Rattle.trac_views.specs.Lines.{dropped_text, head_text};
-ghost use Rattle.trac_views.specs.Told.{event_text, has_steps, has_strings, is_fault, meta_text};
-ghost use Rattle.trac_views.specs.Faults.{TellsDone, TellsEnd, TellsStep, TellsWhere, forms_text};
-ghost use Rattle.trac_views.specs.Faults.{is_told};
+ghost use Rattle.trac_views.specs.CallLines.{event_text, has_steps, has_strings, is_fault, meta_text};
+ghost use Rattle.trac_views.specs.Faults.{AddsDone, AddsEnd, AddsStep, AddsWhere, forms_text};
+ghost use Rattle.trac_views.specs.Faults.{is_shown_step};
 ghost use Rattle.trac_tracer.specs.ShownRuns.{first_progress};
-ghost use Rattle.trac_tracer.specs.ShownCalls.{IsKept, TellsCall, made_text, seen_text, touched_of};
+ghost use Rattle.trac_tracer.specs.ShownCalls.{IsKept, AddsCall, made_text, seen_text, touched_of};
 
 use crate::oddities::oddity_of;
 use std::alloc::{AllocError, Allocator};
@@ -46,7 +46,7 @@ impl Progress {
     }
 }
 
-/// The lines of the views of a run, and what they are made from.
+/// The lines of the views of a run, and what they are fresh_machine from.
 #[derive(Drop)]
 pub struct Shown<A: Allocator> {
     alloc: A,
@@ -119,9 +119,9 @@ impl<A: Allocator + Copy> Shown<A> {
 
     /// Looks at a machine before a step. Fails only if memory runs out.
     pub fn look(&mut self, machine: &Machine) -> Result<Before, AllocError>
-        ensures seen { let asked = is_told self.old.views machine.now.steps in
+        ensures seen { let asked = is_shown_step self.old.views machine.now.steps in
             IfOk result (IsSeen machine.now (asked && not (has_steps self.old.views))) }
-        ensures kept { is_told self.old.views machine.now.steps ≡ true →
+        ensures kept { is_shown_step self.old.views machine.now.steps ≡ true →
             has_steps self.old.views ≡ false → IfOk result (λ before. IfSome before.call
             (λ mark. IsKept machine.now.memory self.old.views.width mark self.new.arguments.items
             self.new.named self.new.deleted.items)) }
@@ -167,7 +167,7 @@ impl<A: Allocator + Copy> Shown<A> {
 
     /// Adds the lines of what a step did. `machine` is the machine after it, `need` the cells that it needed, and
     /// `printed` the bytes that it printed. Fails only if memory runs out.
-    pub fn tell(
+    pub fn add_lines(
         &mut self,
         before: &Before,
         machine: &Machine,
@@ -178,13 +178,13 @@ impl<A: Allocator + Copy> Shown<A> {
         ensures peak { self.new.peak ≡ max self.old.peak need }
         ensures depth { self.new.depth ≡ depth_in before.now machine.now self.old.depth }
         ensures views { self.new.views ≡ self.old.views }
-        ensures hidden { is_told self.old.views before.now.done ≡ false →
+        ensures hidden { is_shown_step self.old.views before.now.done ≡ false →
             self.new.lines.items ≡ self.old.lines.items }
-        ensures steps { is_told self.old.views before.now.done ≡ true →
-            has_steps self.old.views ≡ true → OnOk result (TellsStep self.old.views.width
+        ensures steps { is_shown_step self.old.views before.now.done ≡ true →
+            has_steps self.old.views ≡ true → OnOk result (AddsStep self.old.views.width
             before.now need printed.now machine.now self.old.lines.items self.new.lines.items) }
-        ensures calls { is_told self.old.views before.now.done ≡ true →
-            has_steps self.old.views ≡ false → OnOk result (TellsCall self.old.views before.now fate
+        ensures calls { is_shown_step self.old.views before.now.done ≡ true →
+            has_steps self.old.views ≡ false → OnOk result (AddsCall self.old.views before.now fate
             self.new.depth self.old.arguments.items self.old.named self.old.deleted.items
             printed.now machine.now self.old.lines.items self.new.lines.items) }
     {
@@ -199,8 +199,8 @@ impl<A: Allocator + Copy> Shown<A> {
             return Ok(());
         }
         if machine.steps() > before.done {
-            self.tell_step(before, machine, need)?;
-            self.tell_call(before, machine, value, printed)?;
+            self.add_step(before, machine, need)?;
+            self.add_call(before, machine, value, printed)?;
         }
         self.show(&Event::Printed(printed))
     }
@@ -220,8 +220,8 @@ impl<A: Allocator + Copy> Shown<A> {
     }
 
     // Adds that a step was done, and what it dropped.
-    fn tell_step(&mut self, before: &Before, machine: &Machine, need: u32) -> Result<(), AllocError>
-        ensures lines { has_steps self.old.views ≡ true → OnOk result (TellsDone self.old.views.width
+    fn add_step(&mut self, before: &Before, machine: &Machine, need: u32) -> Result<(), AllocError>
+        ensures lines { has_steps self.old.views ≡ true → OnOk result (AddsDone self.old.views.width
             before.now need machine.now self.old.lines.items self.new.lines.items) }
         ensures dropped { has_steps self.old.views ≡ false → OnOk result (self.new.lines.items ≡
             self.old.lines.items
@@ -244,7 +244,7 @@ impl<A: Allocator + Copy> Shown<A> {
     }
 
     // Adds the call that a step performed, if it performed one.
-    fn tell_call(
+    fn add_call(
         &mut self,
         before: &Before,
         machine: &Machine,
@@ -299,8 +299,8 @@ impl<A: Allocator + Copy> Shown<A> {
     }
 
     /// Adds how the run ended. Fails only if memory runs out.
-    pub fn tell_end(&mut self, fate: Fate, machine: &Machine) -> Result<(), AllocError>
-        ensures { OnOk result (TellsEnd self.old.views fate self.old.peak machine.now
+    pub fn add_end(&mut self, fate: Fate, machine: &Machine) -> Result<(), AllocError>
+        ensures { OnOk result (AddsEnd self.old.views fate self.old.peak machine.now
             self.old.lines.items self.new.lines.items) }
     {
         let report = Report {
@@ -309,12 +309,12 @@ impl<A: Allocator + Copy> Shown<A> {
             peak: self.peak,
         };
         push_end(&mut self.lines, &report)?;
-        self.tell_forms(machine)?;
-        self.tell_fault(fate, machine)
+        self.add_forms(machine)?;
+        self.add_fault(fate, machine)
     }
 
     // Adds the forms and the meta character, if forms are shown.
-    fn tell_forms(&mut self, machine: &Machine) -> Result<(), AllocError>
+    fn add_forms(&mut self, machine: &Machine) -> Result<(), AllocError>
         ensures lines { OnOk result (self.new.lines.items ≡
             self.old.lines.items ++ forms_text self.old.views machine.now) }
         ensures views { self.new.views ≡ self.old.views }
@@ -332,8 +332,8 @@ impl<A: Allocator + Copy> Shown<A> {
     }
 
     // Adds the lines on a fault, if one ended the run.
-    fn tell_fault(&mut self, fate: Fate, machine: &Machine) -> Result<(), AllocError>
-        ensures { OnOk result (TellsWhere (is_fault fate) self.old.views.width machine.now
+    fn add_fault(&mut self, fate: Fate, machine: &Machine) -> Result<(), AllocError>
+        ensures { OnOk result (AddsWhere (is_fault fate) self.old.views.width machine.now
             self.old.lines.items self.new.lines.items) }
     {
         if !is_fault(fate) {
@@ -359,7 +359,7 @@ fn touched_of(named: &Named) -> Concerned
     }
 }
 
-// Adds the form of this name, where the call can have made or changed it.
+// Adds the form of this name, where the call can have fresh_machine or changed it.
 fn push_touched<A: Allocator + Copy>(
     text: &mut Vec<u8, A>,
     alloc: A,

@@ -4,7 +4,7 @@ ghost use Rattle.std.specs.Prelude.{min, true, false};
 ghost use Rattle.std.specs.Io.KnownBytes.{Appends};
 ghost use Rattle.trac_core.specs.Machine.{reported_input_failures};
 ghost use Rattle.trac_views.specs.Lines.{folded_text};
-ghost use Rattle.trac_views.specs.Told.{has_steps};
+ghost use Rattle.trac_views.specs.CallLines.{has_steps};
 ghost use Rattle.trac_devices.specs.Devices.{Stream, told_stream};
 ghost use Rattle.trac_tracer.specs.ShownRuns.{ShowsRun, all_steps, views_from};
 
@@ -75,11 +75,11 @@ pub fn trace<I: Source, W: Write>(
         let before = shown.look(&machine)?;
         let fate = machine.step(source, &mut printed);
         let need = machine.take_peak();
-        shown.tell(&before, &machine, fate, need, printed.as_bytes())?;
+        shown.add_lines(&before, &machine, fate, need, printed.as_bytes())?;
         printed.clear();
         last.add(machine.steps(), shown.lines())?;
         if let Some(fate) = fate {
-            shown.tell_end(fate, &machine)?;
+            shown.add_end(fate, &machine)?;
             write_folded(alloc, output, shown.lines(), options.views.columns)?;
             let first = last.first();
             return Ok(Traced { fate, first });

@@ -5,7 +5,7 @@ use Rattle.std.specs.Str.{IsUtf8, is_utf8}
 use Rattle.std.proofs.lemmas.Bool.{le-leb, lt-leb}
 use Rattle.std.proofs.lemmas.Str.{IsUtf8-from_is_utf8, is_utf8-from_IsUtf8}
 use Rattle.trac_views.specs.Shown.{is_whole}
-use Rattle.trac_views.specs.Told.{blanks_text}
+use Rattle.trac_views.specs.CallLines.{blanks_text}
 
 -- fewer than n bytes don't begin with n bytes of UTF-8
 pub whole_no : (n : ℕ) (bytes : List ℕ) → length bytes < n → false ≡ is_whole n bytes

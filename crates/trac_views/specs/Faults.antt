@@ -16,12 +16,12 @@ use Rattle.trac_views.specs.declared.faults.Parts.{Parts}
 use Rattle.trac_views.specs.declared.views.Views.{Views}
 use Rattle.trac_views.specs.Largest.{largest_text}
 use Rattle.trac_views.specs.Lines.{dropped_text, end_text, output_text, step_text}
-use Rattle.trac_views.specs.Told.{form_line, is_fault, meta_text, open_calls_text, parts_text}
-use Rattle.trac_views.specs.Told.{where_text}
+use Rattle.trac_views.specs.CallLines.{form_line, is_fault, meta_text, open_calls_text, parts_text}
+use Rattle.trac_views.specs.CallLines.{where_text}
 
 -- whether the step after `done` others is shown
-abbrev pub is_told : Views → ℕ → Bool
-is_told views done =
+abbrev pub is_shown_step : Views → ℕ → Bool
+is_shown_step views done =
     nat_le views.from (one_more done) && nat_le (one_more done) views.to
 
 -- the cells are those of a neutral string in memory

@@ -1,5 +1,5 @@
 pub mod Lines
 pub mod Shown
-pub mod Told
+pub mod CallLines
 pub mod Faults
 pub mod Largest

@@ -1,8 +1,8 @@
 //! The lines of the calls that were performed. Their form is this processor's own choice.
 ghost use Rattle.std.specs.Prelude.{◌≡◌, ◌++◌, OnOk};
-ghost use Rattle.trac_views.specs.Told.{blanks_text, called_text, indent_text, oddity_text};
-ghost use Rattle.trac_views.specs.Told.{results_text};
-ghost use Rattle.trac_views.specs.Told.{unless_empty};
+ghost use Rattle.trac_views.specs.CallLines.{blanks_text, called_text, indent_text, oddity_text};
+ghost use Rattle.trac_views.specs.CallLines.{results_text};
+ghost use Rattle.trac_views.specs.CallLines.{unless_empty};
 
 use crate::escapes::{opening, push_cells_cut, push_cut};
 use crate::lines::{push, push_column, push_number};

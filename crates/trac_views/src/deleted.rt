@@ -2,8 +2,8 @@
 ghost use Rattle.std.specs.Prelude.{◌≡◌, ◌++◌, OnOk};
 ghost use Rattle.std.specs.List.{flat_map};
 ghost use Rattle.trac_space.specs.Texts.{text_of_cells};
-ghost use Rattle.trac_views.specs.Told.{behind_deleted, deleted_text, deletion, first_deleted, form_deleted};
-ghost use Rattle.trac_views.specs.Told.{is_argument, named_deleted};
+ghost use Rattle.trac_views.specs.CallLines.{behind_deleted, deleted_text, deletion, first_deleted, form_deleted};
+ghost use Rattle.trac_views.specs.CallLines.{is_argument, named_deleted};
 
 use crate::escapes::push_name;
 use crate::lines::push;

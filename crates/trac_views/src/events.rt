@@ -1,6 +1,6 @@
 //! What a step did, from which each view takes its lines.
 ghost use Rattle.std.specs.Prelude.{◌≡◌, ◌++◌, OnOk};
-ghost use Rattle.trac_views.specs.Told.{change_line, changes_text, event_text};
+ghost use Rattle.trac_views.specs.CallLines.{change_line, changes_text, event_text};
 
 use crate::calls::{Called, push_call, unless_empty};
 use crate::lines::{Step, push, push_column, push_dropped, push_printed, push_step};

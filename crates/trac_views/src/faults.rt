@@ -2,10 +2,10 @@
 ghost use Rattle.std.specs.Prelude.{◌≡◌, ◌++◌, OnOk, count_by};
 ghost use Rattle.std.specs.List.{position_or_len};
 ghost use Rattle.trac_space.specs.Cells.{is_call};
-ghost use Rattle.trac_views.specs.Told.{around_text, is_fault, open_calls_text, open_text};
-ghost use Rattle.trac_views.specs.Told.{opened_text};
+ghost use Rattle.trac_views.specs.CallLines.{around_text, is_fault, open_calls_text, open_text};
+ghost use Rattle.trac_views.specs.CallLines.{opened_text};
 ghost use Rattle.trac_views.specs.Faults.{TellsFault, parts_of};
-ghost use Rattle.trac_views.specs.Told.{open_line, parts_text, place_text, skip_behind, where_text};
+ghost use Rattle.trac_views.specs.CallLines.{open_line, parts_text, place_text, skip_behind, where_text};
 
 use crate::escapes::{opening, push_cells_cut};
 use crate::largest::push_largest_forms;

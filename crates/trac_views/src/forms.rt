@@ -1,7 +1,7 @@
 //! Forms as the views show them.
 ghost use Rattle.std.specs.Prelude.{◌≡◌, ◌++◌, OnOk};
 ghost use Rattle.std.specs.List.{flat_map};
-ghost use Rattle.trac_views.specs.Told.{form_line, form_text};
+ghost use Rattle.trac_views.specs.CallLines.{form_line, form_text};
 
 use crate::escapes::{push_cut, push_name};
 use crate::lines::push;

@@ -1,6 +1,6 @@
 //! What of a run is shown.
 ghost use Rattle.std.specs.Prelude.{◌≡◌, ◌&&◌, ◌+◌, ◌-◌, ◌^◌, max, min, nat_le, false};
-ghost use Rattle.trac_views.specs.Told.{has_steps, has_strings};
+ghost use Rattle.trac_views.specs.CallLines.{has_steps, has_strings};
 
 /// The most steps before the end that `--last` can show, this processor's own choice.
 pub const MOST_LAST: u64 = 1_000_000;

@@ -7,11 +7,11 @@ use Rattle.trac_language.specs.declared.item.Item.{Item}
 use Rattle.trac_space.specs.declared.cell.Cell.{Cell}
 use Rattle.trac_warnings.specs.Misspelled.{misspelled_at, misspelled_from}
 use Rattle.trac_warnings.specs.Performed.{gap_behind, gaps_behind, next_text, of_text}
-use Rattle.trac_warnings.specs.Script.{spelled, spelled_at, told_behind}
+use Rattle.trac_warnings.specs.Script.{spelled, spelled_at, reported_behind}
 use Rattle.trac_warnings.specs.Spelling.{spelling_of}
 use Rattle.trac_warnings.proofs.NextNames.{taken_whole}
 use Rattle.trac_core.specs.declared.rules.ScanningRule.{ScanningRule}
-use Rattle.trac_warnings.specs.Told.{end_warnings, ended, is_dropped_last, is_protection, not_ended, open_warnings}
+use Rattle.trac_warnings.specs.StepWarnings.{end_warnings, ended, is_dropped_last, is_protection, not_ended, open_warnings}
 use Rattle.trac_warnings.specs.declared.watch.OpenString.{OpenString}
 use Rattle.trac_warnings.specs.Watched.{Said}
 use Rattle.trac_warnings.specs.declared.origin.Origin.{Origin}
@@ -25,27 +25,27 @@ head_of xs k d less = let e : suc k ≡ k + 1 = omega arith in drop-cons xs k d 
 added_first : (old new first others whole : List Said) → new ≡ old ++ first → old ++ (first ++ others) ≡ whole → new ++ others ≡ whole
 added_first old new first others whole added all = ap (λ t. t ++ others) added ∙ append_assoc old first others ∙ all
 
-spelled_behind : (old new whole : List Said) (told sign later : Bool) (place c : ℕ) (text : List ℕ)
-    → new ≡ old ++ spelled_at (spelling_of (c ∷ text)) told sign place (c ∷ text)
-    → later ≡ told_behind (spelling_of (c ∷ text)) told c
-    → old ++ spelled told sign place (c ∷ text) ≡ whole → new ++ spelled later (c == 35) (place + 1) text ≡ whole
-spelled_behind old new whole told sign later place c text added is all =
+spelled_behind : (old new whole : List Said) (reported sign later : Bool) (place c : ℕ) (text : List ℕ)
+    → new ≡ old ++ spelled_at (spelling_of (c ∷ text)) reported sign place (c ∷ text)
+    → later ≡ reported_behind (spelling_of (c ∷ text)) reported c
+    → old ++ spelled reported sign place (c ∷ text) ≡ whole → new ++ spelled later (c == 35) (place + 1) text ≡ whole
+spelled_behind old new whole reported sign later place c text added is all =
     ap (λ t. new ++ spelled t (c == 35) (place + 1) text) is
-    ∙ added_first old new (spelled_at (spelling_of (c ∷ text)) told sign place (c ∷ text)) (spelled (told_behind (spelling_of (c ∷ text)) told c) (c == 35) (place + 1) text) whole added all
+    ∙ added_first old new (spelled_at (spelling_of (c ∷ text)) reported sign place (c ∷ text)) (spelled (reported_behind (spelling_of (c ∷ text)) reported c) (c == 35) (place + 1) text) whole added all
 
 -- the spelling of a text at a place of the input, and of what stands behind its head
-pub next_spelled : (old new whole : List Said) (told sign later : Bool) (place : ℕ) (input : List ℕ) → place < length input
-    → new ≡ old ++ spelled_at (spelling_of (take (length input - place) (drop place input))) told sign place (take (length input - place) (drop place input))
-    → later ≡ told_behind (spelling_of (take (length input - place) (drop place input))) told (get_or (take (length input - place) (drop place input)) 0 0)
-    → old ++ spelled told sign place (drop place input) ≡ whole
+pub next_spelled : (old new whole : List Said) (reported sign later : Bool) (place : ℕ) (input : List ℕ) → place < length input
+    → new ≡ old ++ spelled_at (spelling_of (take (length input - place) (drop place input))) reported sign place (take (length input - place) (drop place input))
+    → later ≡ reported_behind (spelling_of (take (length input - place) (drop place input))) reported (get_or (take (length input - place) (drop place input)) 0 0)
+    → old ++ spelled reported sign place (drop place input) ≡ whole
     → new ++ spelled later (get_or input place 0 == 35) (place + 1) (drop (place + 1) input) ≡ whole
-next_spelled old new whole told sign later place input less added is all =
+next_spelled old new whole reported sign later place input less added is all =
     let head = head_of input place 0 less in
     let part = taken_whole input place ∙ head in
-    spelled_behind old new whole told sign later place (get_or input place 0) (drop (place + 1) input)
-    (subst (λ t. new ≡ old ++ spelled_at (spelling_of t) told sign place t) part added)
-    (subst (λ t. later ≡ told_behind (spelling_of t) told (get_or t 0 0)) part is)
-    (subst (λ t. old ++ spelled told sign place t ≡ whole) head all)
+    spelled_behind old new whole reported sign later place (get_or input place 0) (drop (place + 1) input)
+    (subst (λ t. new ≡ old ++ spelled_at (spelling_of t) reported sign place t) part added)
+    (subst (λ t. later ≡ reported_behind (spelling_of t) reported (get_or t 0 0)) part is)
+    (subst (λ t. old ++ spelled reported sign place t ≡ whole) head all)
 
 -- the calls at a place of the input, and behind it, whose names are nearly those of functions
 pub next_misspelled : (old new whole : List Said) (place : ℕ) (input : List ℕ) → place < length input
@@ -82,17 +82,17 @@ last_first : {A : Type 0} (xs ys : List A) (x : A) → xs ≡ ys ++ x ∷ [] →
 last_first xs ys x is = ap reverse is ∙ reverse-append ys (x ∷ [])
 
 -- what is said of the end of the last string was added, and what is said of the others' ends is left
-pub next_end : (rule : ScanningRule) (active : ℕ) (here : Origin) (calls : List Origin) (told new whole : List Said) (is_unmatched : Bool)
+pub next_end : (rule : ScanningRule) (active : ℕ) (here : Origin) (calls : List Origin) (reported new whole : List Said) (is_unmatched : Bool)
     (string : OpenString) (strings others : List OpenString) → nat_lt string.rest active ≡ false → strings ≡ others ++ string ∷ []
     → is_unmatched ≡ (nat_lt active string.rest && is_protection rule)
-    → new ≡ told ++ end_warnings is_unmatched (is_dropped_last told) here calls string
-    → ended rule active here calls told (reverse strings) ≡ whole → ended rule active here calls new (reverse others) ≡ whole
-next_end rule active here calls told new whole is_unmatched string strings others less is unmatched added all =
-    let e = λ (b : Bool). told ++ end_warnings b (is_dropped_last told) here calls string in
+    → new ≡ reported ++ end_warnings is_unmatched (is_dropped_last reported) here calls string
+    → ended rule active here calls reported (reverse strings) ≡ whole → ended rule active here calls new (reverse others) ≡ whole
+next_end rule active here calls reported new whole is_unmatched string strings others less is unmatched added all =
+    let e = λ (b : Bool). reported ++ end_warnings b (is_dropped_last reported) here calls string in
     let later = ended rule active here calls (e (nat_lt active string.rest && is_protection rule)) (reverse others) in
     ap (λ t. ended rule active here calls t (reverse others)) (added ∙ ap e unmatched)
-    ∙ sym (ap (λ b. if b then told else later) less)
-    ∙ sym (ap (ended rule active here calls told) (last_first strings others string is)) ∙ all
+    ∙ sym (ap (λ b. if b then reported else later) less)
+    ∙ sym (ap (ended rule active here calls reported) (last_first strings others string is)) ∙ all
 
 pub next_not_ended : (active : ℕ) (whole : List OpenString) (string : OpenString) (strings others : List OpenString)
     → nat_lt string.rest active ≡ false → strings ≡ others ++ string ∷ []

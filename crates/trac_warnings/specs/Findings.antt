@@ -44,7 +44,7 @@ is_among text texts = contains_by (λ other. slice_cmp nat_cmp text other.items)
 
 -- whether a warning is one of those of which each form gets one, and its form is among those that got one
 abbrev pub is_repeated : {A : Type 0} → Warning A → BTreeSet (Vec ℕ A) → Bool
-is_repeated warning told = is_of_form warning.suspicion && is_among warning.text.items told
+is_repeated warning reported = is_of_form warning.suspicion && is_among warning.text.items reported
 
 -- the texts of a set, in order
 abbrev pub texts_of : {A : Type 0} → BTreeSet (Vec ℕ A) → List (List ℕ)

@@ -13,4 +13,4 @@ pub mod Strings
 pub mod Watched
 pub mod Looked
 pub mod Misspelled
-pub mod Told
+pub mod StepWarnings

@@ -12,7 +12,7 @@ use Rattle.trac_core.specs.View.{neutral_in, row_of}
 use Rattle.trac_core.specs.declared.machine.open_calls.CallMark.{CallMark}
 use Rattle.trac_core.specs.declared.rules.ScanningRule.{ScanningRule}
 use Rattle.trac_core.specs.declared.rules.ScanningRule.TheVariants as row
-use Rattle.trac_events.specs.Calls.{behind_mark}
+use Rattle.trac_events.specs.Calls.{top_frame}
 use Rattle.trac_warnings.specs.Origins.{first_origin, more, origin_at}
 use Rattle.trac_warnings.specs.Performed.{Warns, call_warnings, commas_of, where_so}
 use Rattle.trac_warnings.specs.Watched.{Said}
@@ -72,7 +72,7 @@ places_of commas arguments = drop (length commas - commas_of arguments) commas
 -- the arguments so far of the call around the innermost one, by the places of their marks
 abbrev pub around_of : Option CallMark → List Cell → ℕ → List Cell
 around_of None neutral mark = []
-around_of (Some outer) neutral mark = behind_mark (take mark neutral) outer.place
+around_of (Some outer) neutral mark = top_frame (take mark neutral) outer.place
 
 -- `ending` tells of a call that is about to be performed, whose mark stands at `mark` in the neutral string; the
 -- call around it has the mark `outer`
@@ -80,9 +80,9 @@ pub record IsEnding
     {A : Type 0} (watch : Watch A) (neutral : List Cell) (outer : Option CallMark) (mark : ℕ) (known : List ℕ)
     (ending : Ending)
     : Type 0 where
-  pub arguments_are : ending.arguments.now ≡ behind_mark neutral mark
+  pub arguments_are : ending.arguments.now ≡ top_frame neutral mark
   pub begin_is : ending.begin ≡ begin_of watch
-  pub places_are : ending.places.now ≡ places_of watch.commas.items (behind_mark neutral mark)
+  pub places_are : ending.places.now ≡ places_of watch.commas.items (top_frame neutral mark)
   pub around_is : ending.around.now ≡ around_of outer neutral mark
   pub inside_is : ending.is_inside ≡ is_inside watch (begin_of watch)
   pub input_is : ending.input.now ≡ known

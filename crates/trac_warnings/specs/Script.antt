@@ -92,25 +92,25 @@ numbered_lines first count is_head place (c ∷ text) =
 
 -- the warning of the head of a text at a place: of what is nearly the beginning of a call, or of a
 -- parenthesis before the name of a function, unless it was warned of or a number sign stands before it
-abbrev pub spelled_at : Option Suspicion → (is_told is_behind_sign : Bool) → ℕ → Text → List Said
-spelled_at (Some suspicion) is_told is_behind_sign place text = at_place suspicion place [] ∷ []
-spelled_at None is_told is_behind_sign place [] = []
-spelled_at None is_told is_behind_sign place (c ∷ text) =
-    if (c == 40) && ((not is_told && not is_behind_sign) && names_function 44 text)
+abbrev pub spelled_at : Option Suspicion → (is_reported is_behind_sign : Bool) → ℕ → Text → List Said
+spelled_at (Some suspicion) is_reported is_behind_sign place text = at_place suspicion place [] ∷ []
+spelled_at None is_reported is_behind_sign place [] = []
+spelled_at None is_reported is_behind_sign place (c ∷ text) =
+    if (c == 40) && ((not is_reported && not is_behind_sign) && names_function 44 text)
     then at_place NoNumberSign place (take 2 text) ∷ [] else []
 
 -- whether the next parenthesis behind the character c was warned of already
-abbrev pub told_behind : Option Suspicion → Bool → ℕ → Bool
-told_behind (Some Bracket) is_told c = false
-told_behind (Some suspicion) is_told c = true
-told_behind None is_told c = not (c == 40) && is_told
+abbrev pub reported_behind : Option Suspicion → Bool → ℕ → Bool
+reported_behind (Some Bracket) is_reported c = false
+reported_behind (Some suspicion) is_reported c = true
+reported_behind None is_reported c = not (c == 40) && is_reported
 
 -- the warnings of the spelling of a text at a place of the input
-abbrev pub spelled : (is_told is_behind_sign : Bool) → ℕ → Text → List Said
-spelled is_told is_behind_sign place [] = []
-spelled is_told is_behind_sign place (c ∷ text) =
-    spelled_at (spelling_of (c ∷ text)) is_told is_behind_sign place (c ∷ text)
-    ++ spelled (told_behind (spelling_of (c ∷ text)) is_told c) (c == 35) (place + 1) text
+abbrev pub spelled : (is_reported is_behind_sign : Bool) → ℕ → Text → List Said
+spelled is_reported is_behind_sign place [] = []
+spelled is_reported is_behind_sign place (c ∷ text) =
+    spelled_at (spelling_of (c ∷ text)) is_reported is_behind_sign place (c ∷ text)
+    ++ spelled (reported_behind (spelling_of (c ∷ text)) is_reported c) (c == 35) (place + 1) text
 
 -- the warnings of a script
 abbrev pub script_warnings : Text → List Said

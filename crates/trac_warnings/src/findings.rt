@@ -14,18 +14,18 @@ pub struct Findings<A: Allocator> {
     // How often each warning was given, in the order of the places.
     counts: BTreeMap<Warning<A>, u64, A>,
     // The names of the forms of which a warning was kept that each form gets once, and the names that no function has.
-    told: BTreeSet<Vec<u8, A>, A>,
+    reported: BTreeSet<Vec<u8, A>, A>,
 }
 
 impl<A: Allocator + Copy> Findings<A> {
     /// No warning yet.
     pub fn new(alloc: A) -> Findings<A>
         ensures counts { result.counts.entries ≡ [] }
-        ensures told { texts_of result.told ≡ [] }
+        ensures reported { texts_of result.reported ≡ [] }
     {
         Findings {
             counts: BTreeMap::new(alloc),
-            told: BTreeSet::new(alloc),
+            reported: BTreeSet::new(alloc),
         }
     }
 
@@ -34,19 +34,19 @@ impl<A: Allocator + Copy> Findings<A> {
     /// come from one mistake. So it is with the number of arguments that a form got. A name that is nearly that of a
     /// function is told once, and not at all if a call of that name was told. Fails only if memory runs out.
     pub fn add(&mut self, warning: Warning<A>) -> Result<(), AllocError>
-        ensures repeated { is_repeated warning self.old.told ≡ true →
+        ensures repeated { is_repeated warning self.old.reported ≡ true →
             self.new.counts.entries ≡ self.old.counts.entries }
-        ensures counted { is_repeated warning self.old.told ≡ false →
+        ensures counted { is_repeated warning self.old.reported ≡ false →
             OnOk result (self.new.counts.entries ≡ insert_entry ⟦<Warning<A> as Ord>⟧.cmp self.old.counts.entries
             warning (once_more (get ⟦<Warning<A> as Ord>⟧.cmp self.old.counts warning))) }
-        ensures others { is_noted warning.suspicion ≡ false → self.new.told ≡ self.old.told }
-        ensures told { is_noted warning.suspicion ≡ true → OnOk result (texts_of self.new.told ≡
-            with_text warning.text.items (texts_of self.old.told)) }
+        ensures others { is_noted warning.suspicion ≡ false → self.new.reported ≡ self.old.reported }
+        ensures reported { is_noted warning.suspicion ≡ true → OnOk result (texts_of self.new.reported ≡
+            with_text warning.text.items (texts_of self.old.reported)) }
     {
         if !is_noted(warning.suspicion) {
             return count(&mut self.counts, warning);
         }
-        if !note_name(&mut self.told, &warning.text)? && is_of_form(warning.suspicion) {
+        if !note_name(&mut self.reported, &warning.text)? && is_of_form(warning.suspicion) {
             return Ok(());
         }
         count(&mut self.counts, warning)

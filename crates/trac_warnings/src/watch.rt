@@ -5,7 +5,7 @@ ghost use Rattle.trac_events.specs.Calls.{IsSeen};
 ghost use Rattle.trac_warnings.specs.Looked.{Looks};
 ghost use Rattle.trac_warnings.specs.Origins.{in_input, moved};
 ghost use Rattle.trac_warnings.specs.Performed.{Warns};
-ghost use Rattle.trac_warnings.specs.Told.{TellsAll, calls_behind, rule_warnings, strings_behind};
+ghost use Rattle.trac_warnings.specs.StepWarnings.{JudgesStep, calls_behind, rule_warnings, strings_behind};
 ghost use Rattle.trac_warnings.specs.Watched.{IsFresh, Kept, KeepsPlaces, KeepsRun, Moves, Reads};
 ghost use Rattle.trac_warnings.specs.Watched.{Stays, said};
 
@@ -39,7 +39,7 @@ struct OpenString {
 
 /// A name of forms that were defined.
 #[derive(Clone, Copy)]
-struct Written {
+struct DefinitionSite {
     // Its number among the names.
     number: usize,
     // Where the body of the form that was defined last was written.
@@ -65,7 +65,7 @@ pub struct Watch<A: Allocator> {
     commas: Vec<Origin, A>,
     // The names of the forms that were defined, by their number, and what is known by a name.
     names: Vec<Vec<u8, A>, A>,
-    written: BTreeMap<Vec<u8, A>, Written, A>,
+    written: BTreeMap<Vec<u8, A>, DefinitionSite, A>,
     // The arguments of the call that the step performs, and where its value was written, unless it is
     // one of them.
     arguments: Vec<Cell, A>,
@@ -131,7 +131,7 @@ impl<A: Allocator + Copy> Watch<A> {
 
     /// Looks at a machine after a step, before which `look` gave `before`. `input` has at least the bytes that
     /// the machine has read. Fails only if memory runs out.
-    pub fn tell(
+    pub fn judge_step(
         &mut self,
         before: &Before,
         machine: &Machine,
@@ -145,7 +145,7 @@ impl<A: Allocator + Copy> Watch<A> {
         ensures read { machine.now.steps ≢ before.now.done → OnOk result (Reads before.now machine.now
             input.now self.old.read self.new.read) }
         ensures tells { machine.now.steps ≢ before.now.done →
-            OnOk result (TellsAll before.now machine.now input.now self.old self.new) }
+            OnOk result (JudgesStep before.now machine.now input.now self.old self.new) }
     {
         if machine.steps() == before.done {
             self.warnings.clear();
@@ -154,14 +154,14 @@ impl<A: Allocator + Copy> Watch<A> {
         let here = self.origin();
         let origin = self.value_origin(before, machine);
         let active = machine.active();
-        self.tell_rule(before, active, machine.neutral().len())?;
+        self.warn_of_rule(before, active, machine.neutral().len())?;
         self.move_on(before, machine, origin)?;
-        self.tell_read(before, before.value(machine), active.len(), input)?;
-        self.tell_ends(before.rule, active.len(), here)
+        self.warn_of_read(before, before.value(machine), active.len(), input)?;
+        self.warn_of_ends(before.rule, active.len(), here)
     }
 
     // Looks at what a step did, by its rule, and left in the strings.
-    fn tell_rule(
+    fn warn_of_rule(
         &mut self,
         before: &Before,
         active: &[Cell],
@@ -184,8 +184,8 @@ impl<A: Allocator + Copy> Watch<A> {
             }
             ScanningRule::ActiveCall | ScanningRule::NeutralCall => Ok(self.calls.push(origin)?),
             ScanningRule::Argument => Ok(self.commas.push(argument_origin(origin, active))?),
-            ScanningRule::Protection => self.tell_protection(before, origin),
-            ScanningRule::EndOfCall => self.tell_call(before, active.len(), neutral),
+            ScanningRule::Protection => self.warn_of_protection(before, origin),
+            ScanningRule::EndOfCall => self.warn_of_call(before, active.len(), neutral),
             _ => Ok(()),
         }
     }

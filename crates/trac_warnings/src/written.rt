@@ -4,7 +4,7 @@ ghost use Rattle.trac_warnings.specs.Origins.{in_input};
 ghost use Rattle.trac_warnings.specs.Performed.{Warns};
 ghost use Rattle.trac_warnings.specs.Script.{behind_digits, curly_end, is_numbered, last_seen, numbered_lines};
 ghost use Rattle.trac_warnings.specs.Script.{other_meta};
-ghost use Rattle.trac_warnings.specs.Script.{script_warnings, spelled, spelled_at, told_behind};
+ghost use Rattle.trac_warnings.specs.Script.{script_warnings, spelled, spelled_at, reported_behind};
 ghost use Rattle.trac_warnings.specs.Spelling.{spelling_of};
 ghost use Rattle.trac_warnings.specs.Watched.{Adds, Kept};
 
@@ -141,15 +141,15 @@ fn look_at_spelling<A: Allocator + Copy>(
     ensures said { OnOk result (Warns warnings.old.items warnings.new.items
         (spelled false false 0 input.now)) }
 {
-    let mut is_told = false;
+    let mut is_reported = false;
     let mut is_behind_sign = false;
     for place in 0..input.len() {
-        is_told = look_at_place(
+        is_reported = look_at_place(
             warnings,
             alloc,
             place,
             &input[place..],
-            is_told,
+            is_reported,
             is_behind_sign,
         )?;
         is_behind_sign = input[place] == b'#';
@@ -157,7 +157,7 @@ fn look_at_spelling<A: Allocator + Copy>(
     Ok(())
 }
 
-// Looks at the head of a text at a place of the input. `is_told` says whether the next parenthesis was warned
+// Looks at the head of a text at a place of the input. `is_reported` says whether the next parenthesis was warned
 // of, and `is_behind_sign` whether a number sign stands before the text. Answers whether the next parenthesis
 // behind the head was warned of.
 #[tactic(auto, using(crate::proofs::Keeping::keeping))]
@@ -166,22 +166,22 @@ fn look_at_place<A: Allocator + Copy>(
     alloc: A,
     place: usize,
     text: &[u8],
-    is_told: bool,
+    is_reported: bool,
     is_behind_sign: bool,
 ) -> Result<bool, AllocError>
     ensures kept { Kept warnings.old.items warnings.new.items }
     ensures said { OnOk result (Warns warnings.old.items warnings.new.items
-        (spelled_at (spelling_of text.now) is_told is_behind_sign place text.now)) }
-    ensures told { IfOk result (λ told. told ≡ told_behind (spelling_of text.now) is_told (get_or text.now 0 0)) }
+        (spelled_at (spelling_of text.now) is_reported is_behind_sign place text.now)) }
+    ensures reported { IfOk result (λ reported. reported ≡ reported_behind (spelling_of text.now) is_reported (get_or text.now 0 0)) }
 {
     if let Some(suspicion) = spelling_of(text) {
         warn_at(warnings, alloc, suspicion, place, &[])?;
         return Ok(suspicion != Suspicion::Bracket);
     }
     let [b'(', behind @ ..] = text else {
-        return Ok(is_told);
+        return Ok(is_reported);
     };
-    if !is_told && !is_behind_sign && names_function(b',', behind) {
+    if !is_reported && !is_behind_sign && names_function(b',', behind) {
         warn_at(
             warnings,
             alloc,

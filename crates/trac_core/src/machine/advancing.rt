@@ -3,7 +3,7 @@ ghost use Rattle.std.specs.Prelude.{◌≡◌, ◌+◌, ◌<◌, ◌≤◌, ◌^
 ghost use Rattle.trac_forms.specs.Contents.{IsSound};
 ghost use Rattle.trac_functions.specs.Calls.{KeepsRoom};
 ghost use Rattle.trac_core.specs.Machine.{KeepsLimits};
-ghost use Rattle.trac_core.specs.StepsInRow.{turning, IsPlainFrom};
+ghost use Rattle.trac_core.specs.StepsInRow.{turning, HasNoCommaFrom};
 ghost use Rattle.trac_core.specs.Advancing.{Advanced, advanced_to};
 ghost use Rattle.trac_core.specs.Driving.{Driven, standing};
 ghost use Rattle.trac_core.specs.Session.{next_function};
@@ -12,7 +12,7 @@ use super::{Counters, Machine, ended};
 use crate::idling::{IDLING_STEPS, begin_idling, may_begin_idling};
 use crate::performer::{Alone, Performer};
 use crate::run_hints::RunHints;
-use crate::scan::{Pending, scan_steps};
+use crate::scan::{NextAction, scan_steps};
 use trac_forms::Work;
 use trac_language::{Fate, Function, Report};
 
@@ -31,7 +31,7 @@ pub struct Progress {
 pub(super) struct Advance {
     progress: Progress,
     /// A place of the neutral string from which on no comma mark stands.
-    plain: u32,
+    no_comma_from: u32,
     /// The steps and the peak that are counted then, and how the run ended, if it did.
     steps: u64,
     peak: u32,
@@ -97,11 +97,11 @@ impl<'a> Machine<'a> {
             steps: self.steps,
             peak: self.peak,
         };
-        let plain = self.plain;
+        let no_comma_from = self.no_comma_from;
         let to = go_on(
             &mut self.work,
             &mut self.meta,
-            plain,
+            no_comma_from,
             at,
             most,
             performer,
@@ -111,19 +111,19 @@ impl<'a> Machine<'a> {
         self.steps = to.steps;
         self.peak = to.peak;
         self.fate = to.fate;
-        self.plain = to.plain;
+        self.no_comma_from = to.no_comma_from;
         to.progress
     }
 }
 
 /// Makes at most `most` steps of a run that isn't over and has these counters. They are single values
-/// here, and no part of a machine, so that they need not stand in memory. From the plain place on no
+/// here, and no part of a machine, so that they need not stand in memory. From place `no_comma_from` on no
 /// comma mark stands in the neutral string.
 #[inline(never)]
 fn go_on<I, O, P: Performer<I, O>>(
     work: &mut Work,
     meta: &mut u8,
-    plain: u32,
+    no_comma_from: u32,
     at: Counters,
     most: u64,
     performer: P,
@@ -131,7 +131,7 @@ fn go_on<I, O, P: Performer<I, O>>(
     sink: &mut O,
 ) -> Advance
     requires sound { IsSound work.old }
-    requires plain { IsPlainFrom plain work.old.neutral }
+    requires no_comma_from { HasNoCommaFrom no_comma_from work.old.neutral }
     requires steps { at.steps ≤ at.allowance }
     requires peak { at.peak ≤ work.old.room }
     requires ready { P.ready source.old sink.old }
@@ -143,7 +143,7 @@ fn go_on<I, O, P: Performer<I, O>>(
     ensures next { (stops : Bool) → result.progress.done < most →
         result.progress.next ≡ next_function (advanced_to stops work.new meta.new at result) }
     ensures counts { result.fate ≡ None → result.steps ≡ at.steps + result.progress.done }
-    ensures plain { IsPlainFrom result.plain work.new.neutral }
+    ensures no_comma_from { HasNoCommaFrom result.no_comma_from work.new.neutral }
     ensures steps { result.steps ≤ at.allowance }
     ensures peak { result.peak ≤ work.old.room }
     ensures keeps { KeepsRoom work.old work.new }
@@ -153,21 +153,21 @@ fn go_on<I, O, P: Performer<I, O>>(
     let mut peak = at.peak;
     // The cells of the first step since a call: those that perform none need no more than it does.
     let mut need = work.used();
-    let mut hints = RunHints::new(plain);
+    let mut hints = RunHints::new(no_comma_from);
     while left > 0 {
         match scan_steps(work, left, &mut hints) {
             Ok(done) => {
                 left -= done;
                 peak = peak.max(need);
             }
-            Err(Pending::Idling) if may_begin_idling(work, left) => {
+            Err(NextAction::Idling) if may_begin_idling(work, left) => {
                 peak = peak.max(begin_idling(work));
                 left -= IDLING_STEPS;
                 need = work.used();
                 hints = RunHints::new(work.neutral_len());
             }
-            Err(pending) => {
-                let last = match performer.perform(work, pending, meta, source, sink) {
+            Err(action) => {
+                let last = match performer.perform(work, action, meta, source, sink) {
                     Ok(last) => last,
                     Err(function) => return going(reach - left, function, hints, at.steps, peak),
                 };
@@ -186,10 +186,10 @@ fn go_on<I, O, P: Performer<I, O>>(
 }
 
 /// `done` steps, behind which the run is over with this report.
-fn over(done: u64, plain: u32, report: Report) -> Advance
+fn over(done: u64, no_comma_from: u32, report: Report) -> Advance
     ensures { result ≡ record {
       progress = record { done = done; next = None };
-      plain = plain;
+      no_comma_from = no_comma_from;
       steps = report.steps;
       peak = report.peak;
       fate = Some report.fate;
@@ -197,7 +197,7 @@ fn over(done: u64, plain: u32, report: Report) -> Advance
 {
     Advance {
         progress: Progress { done, next: None },
-        plain,
+        no_comma_from,
         steps: report.steps,
         peak: report.peak,
         fate: Some(report.fate),
@@ -210,7 +210,7 @@ fn going(done: u64, next: Option<Function>, hints: RunHints, steps: u64, peak: u
     requires { steps + done < 2 ^ 64 }
     ensures { result ≡ record {
       progress = record { done = done; next = next };
-      plain = hints.plain_from;
+      no_comma_from = hints.no_comma_from;
       steps = steps + done;
       peak = peak;
       fate = None;
@@ -218,7 +218,7 @@ fn going(done: u64, next: Option<Function>, hints: RunHints, steps: u64, peak: u
 {
     Advance {
         progress: Progress { done, next },
-        plain: hints.plain_from,
+        no_comma_from: hints.no_comma_from,
         steps: steps + done,
         peak,
         fate: None,

@@ -9,17 +9,17 @@ ghost use Rattle.trac_forms.specs.Contents.{IsSound, used};
 ghost use Rattle.trac_devices.specs.Devices.{Stream};
 ghost use Rattle.trac_functions.specs.Calls.{KeepsRoom};
 ghost use Rattle.trac_functions.specs.Flat.{memory_of, mode_at, is_active_mode};
-ghost use Rattle.trac_core.specs.Attempts.{function_at, delivered};
+ghost use Rattle.trac_core.specs.StepOutcomes.{function_at, delivered};
 ghost use Rattle.trac_core.specs.Answering.{Answered, IsAnswerable, asks_next, is_forced, mode_by};
 ghost use Rattle.trac_core.specs.Machine.{Answers, KeepsLimits, KeepsSettings, moment};
 ghost use Rattle.trac_core.specs.OpenCalls.{calls_unknown};
-ghost use Rattle.trac_core.specs.StepsInRow.{IsPlainFrom};
+ghost use Rattle.trac_core.specs.StepsInRow.{HasNoCommaFrom};
 
 use super::Machine;
 use super::changing::Refused;
 use super::closing::{closed_call, named_at};
-use crate::attempt::Attempt;
 use crate::delivery::{is_active_call, move_value};
+use crate::outcome::StepOutcome;
 use trac_forms::Work;
 use trac_language::Fate;
 
@@ -58,7 +58,7 @@ impl<'a> Machine<'a> {
         if self.steps == self.allowance {
             return false;
         }
-        unknown_call(&self.work, self.plain).is_some()
+        unknown_call(&self.work, self.no_comma_from).is_some()
     }
 
     /// Makes the next step, which performs a call whose name is no function, with this value in the place of the
@@ -86,23 +86,23 @@ impl<'a> Machine<'a> {
         if self.fate.is_some() {
             return Err(Refused);
         }
-        let Some(place) = unknown_call(&self.work, self.plain) else {
+        let Some(place) = unknown_call(&self.work, self.no_comma_from) else {
             return Err(Refused);
         };
         if self.steps == self.allowance {
             self.fate = Some(Fate::Steps);
             return Ok(self.fate);
         }
-        let attempt = end_answered(&mut self.work, place, value, how);
-        self.plain = self.work.neutral_len();
-        Ok(self.count(attempt))
+        let outcome = end_answered(&mut self.work, place, value, how);
+        self.no_comma_from = self.work.neutral_len();
+        Ok(self.count(outcome))
     }
 }
 
 /// Where the mark stands of the call of no function that a step over these contents performs. None where it performs
-/// no call, or one of a function. From the plain place on no comma mark stands in the neutral string.
-fn unknown_call(work: &Work, plain: u32) -> Option<u32>
-    requires { IsPlainFrom plain work.now.neutral }
+/// no call, or one of a function. From place `no_comma_from` on no comma mark stands in the neutral string.
+fn unknown_call(work: &Work, no_comma_from: u32) -> Option<u32>
+    requires { HasNoCommaFrom no_comma_from work.now.neutral }
     ensures call { MatchOption result
         ((meta : ℕ) → calls_unknown (memory_of meta work.now) ≡ false)
         (λ place. (slice_get (text_of_cells work.now.active) 0 ≡ Some 41)
@@ -112,7 +112,7 @@ fn unknown_call(work: &Work, plain: u32) -> Option<u32>
     let Some(place) = closed_call(work) else {
         return None;
     };
-    if named_at(work, place, plain).0.is_some() {
+    if named_at(work, place, no_comma_from).0.is_some() {
         return None;
     }
     Some(place)
@@ -120,7 +120,7 @@ fn unknown_call(work: &Work, plain: u32) -> Option<u32>
 
 /// Deletes the right parenthesis that ends the innermost call, whose mark stands at the place, and has the call leave
 /// with the value. Where the value doesn't fit, nothing is done.
-fn end_answered(work: &mut Work, place: u32, value: &[u8], how: Delivery) -> Attempt
+fn end_answered(work: &mut Work, place: u32, value: &[u8], how: Delivery) -> StepOutcome
     requires closes { slice_get (text_of_cells work.old.active) 0 ≡ Some 41 }
     requires innermost { IsLastCall work.old.neutral place }
     requires sound { IsSound work.old }
@@ -134,7 +134,7 @@ fn end_answered(work: &mut Work, place: u32, value: &[u8], how: Delivery) -> Att
     ensures keeps { KeepsRoom work.old work.new }
 {
     if value.len() > work.free() as usize + 1 {
-        return Attempt {
+        return StepOutcome {
             fate: Some(Fate::Workspace),
             need: 0,
         };
@@ -146,7 +146,7 @@ fn end_answered(work: &mut Work, place: u32, value: &[u8], how: Delivery) -> Att
     prove!(fits);
     let need = work.used();
     move_value(work, place, end, scanned);
-    Attempt { fate: None, need }
+    StepOutcome { fate: None, need }
 }
 
 /// Whether the host's value goes before the active string, where `active` says whether the call is an active one.

@@ -3,7 +3,7 @@ ghost use Rattle.std.specs.Prelude.{◌≡◌, ℕ, length, slice_get, All, Matc
 ghost use Rattle.trac_space.specs.Texts.{IsByte, text_of_cells};
 ghost use Rattle.trac_functions.specs.Flat.{memory_of};
 ghost use Rattle.trac_core.specs.OpenCalls.{next_texts, performed_texts};
-ghost use Rattle.trac_core.specs.StepsInRow.{IsPlainFrom};
+ghost use Rattle.trac_core.specs.StepsInRow.{HasNoCommaFrom};
 
 use super::Machine;
 use super::closing::{arguments_at, closed_call};
@@ -18,7 +18,7 @@ impl<'a> Machine<'a> {
         ensures { result ≡ length (next_texts self.now) }
     {
         if self.fate.is_none() && self.steps < self.allowance {
-            performed_count(&self.work, self.plain)
+            performed_count(&self.work, self.no_comma_from)
         } else {
             0
         }
@@ -34,7 +34,7 @@ impl<'a> Machine<'a> {
         ensures bytes { MatchOption result (Unit {0}) (λ cells. All IsByte cells.now) }
     {
         if self.fate.is_none() && self.steps < self.allowance {
-            performed_argument(&self.work, self.plain, which)
+            performed_argument(&self.work, self.no_comma_from, which)
         } else {
             None
         }
@@ -42,21 +42,21 @@ impl<'a> Machine<'a> {
 }
 
 /// How many arguments the call has that a step over these contents performs, the name counted; 0 where it performs
-/// none. From the plain place on no comma mark stands in the neutral string.
-fn performed_count(work: &Work, plain: u32) -> u32
-    requires { IsPlainFrom plain work.now.neutral }
+/// none. From place `no_comma_from` on no comma mark stands in the neutral string.
+fn performed_count(work: &Work, no_comma_from: u32) -> u32
+    requires { HasNoCommaFrom no_comma_from work.now.neutral }
     ensures { (meta : ℕ) → result ≡ length (performed_texts (memory_of meta work.now)) }
 {
     match closed_call(work) {
         None => 0,
-        Some(place) => arguments_left(work, arguments_at(work, place, plain)),
+        Some(place) => arguments_left(work, arguments_at(work, place, no_comma_from)),
     }
 }
 
 /// An argument of the call that a step over these contents performs, the name being argument 0. From the plain place on
 /// no comma mark stands in the neutral string.
-fn performed_argument<'w>(work: &'w Work, plain: u32, which: u32) -> Option<&'w [Cell]>
-    requires { IsPlainFrom plain work.now.neutral }
+fn performed_argument<'w>(work: &'w Work, no_comma_from: u32, which: u32) -> Option<&'w [Cell]>
+    requires { HasNoCommaFrom no_comma_from work.now.neutral }
     ensures argument { (meta : ℕ) → let texts = performed_texts (memory_of meta work.now) in MatchOption result
         (slice_get texts which ≡ None)
         (λ cells. slice_get texts which ≡ Some (text_of_cells cells.now)) }
@@ -65,7 +65,7 @@ fn performed_argument<'w>(work: &'w Work, plain: u32, which: u32) -> Option<&'w 
     let Some(place) = closed_call(work) else {
         return None;
     };
-    let mut arguments = arguments_at(work, place, plain);
+    let mut arguments = arguments_at(work, place, no_comma_from);
     for _before in 0..which {
         if arguments.is_empty() {
             return None;

@@ -5,7 +5,7 @@ ghost use Rattle.trac_functions.specs.Calls.{AreArguments, texts};
 ghost use Rattle.trac_functions.specs.Flat.{memory_of, mode_at, neutral_of};
 ghost use Rattle.trac_core.specs.View.{neutral_in};
 ghost use Rattle.trac_core.specs.OpenCalls.{innermost_of, mark_of, next_call, performed_call};
-ghost use Rattle.trac_core.specs.StepsInRow.{IsPlainFrom};
+ghost use Rattle.trac_core.specs.StepsInRow.{HasNoCommaFrom};
 
 use super::Machine;
 use super::closing::{closed_call, named_at};
@@ -71,23 +71,23 @@ impl<'a> Machine<'a> {
         ensures { result ≡ next_call self.now }
     {
         if self.fate.is_none() && self.steps < self.allowance {
-            performed_call(&self.work, self.plain)
+            performed_call(&self.work, self.no_comma_from)
         } else {
             None
         }
     }
 }
 
-/// The call that a step over these contents performs. From the plain place on no comma mark stands in
+/// The call that a step over these contents performs. From place `no_comma_from` on no comma mark stands in
 /// the neutral string.
-fn performed_call(work: &Work, plain: u32) -> Option<NextCall>
-    requires { IsPlainFrom plain work.now.neutral }
+fn performed_call(work: &Work, no_comma_from: u32) -> Option<NextCall>
+    requires { HasNoCommaFrom no_comma_from work.now.neutral }
     ensures { (meta : ℕ) → result ≡ performed_call (memory_of meta work.now) }
 {
     let Some(place) = closed_call(work) else {
         return None;
     };
-    let (function, arguments) = named_at(work, place, plain);
+    let (function, arguments) = named_at(work, place, no_comma_from);
     let arguments = arguments_left(work, arguments);
     let depth = calls_around(work, place);
     Some(NextCall {

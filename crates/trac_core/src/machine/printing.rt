@@ -10,19 +10,19 @@ ghost use Rattle.trac_language.specs.State.{Input};
 ghost use Rattle.trac_space.specs.Calls.{IsLastCall};
 ghost use Rattle.trac_forms.specs.Contents.{IsTextPart, IsSound};
 ghost use Rattle.trac_functions.specs.Flat.{memory_of};
-ghost use Rattle.trac_core.specs.Attempts.{function_at, scene, Tried};
+ghost use Rattle.trac_core.specs.StepOutcomes.{function_at, scene, Tried};
 ghost use Rattle.trac_core.specs.Machine.{GoesOn, KeepsLimits, KeepsSettings, ending, moment};
 ghost use Rattle.trac_core.specs.Display.{display_named};
 ghost use Rattle.trac_core.specs.Performed.{performs, prints_output};
 ghost use Rattle.trac_core.specs.Session.{next_function, next_printed, step_prints, call_prints};
-ghost use Rattle.trac_core.specs.StepsInRow.{IsPlainFrom};
+ghost use Rattle.trac_core.specs.StepsInRow.{HasNoCommaFrom};
 
 use super::Machine;
 use super::changing::Refused;
 use super::closing::{closed_call, named_at};
-use crate::attempt::Attempt;
 use crate::delivery::finish_call;
 use crate::display::display_len;
+use crate::outcome::StepOutcome;
 use crate::scan::InnermostCall;
 use trac_forms::Work;
 use trac_functions::arguments::CallResult;
@@ -42,7 +42,7 @@ impl<'a> Machine<'a> {
         if self.steps == self.allowance {
             return 0;
         }
-        printed_len(&mut self.work, self.plain)
+        printed_len(&mut self.work, self.no_comma_from)
     }
 
     /// How many bytes the next step prints, as `prints` counts them, where they are more than `free`.
@@ -57,7 +57,7 @@ impl<'a> Machine<'a> {
         ensures same { self.new ≡ self.old }
     {
         if prints(function) {
-            printed_past(&mut self.work, self.plain, function, free)
+            printed_past(&mut self.work, self.no_comma_from, function, free)
         } else {
             None
         }
@@ -83,32 +83,32 @@ impl<'a> Machine<'a> {
         if !prints(function) {
             return Err(Refused);
         }
-        let Some(attempt) = skip_printing(&mut self.work, self.plain) else {
+        let Some(outcome) = skip_printing(&mut self.work, self.no_comma_from) else {
             return Err(Refused);
         };
-        self.plain = self.work.neutral_len();
-        self.count(attempt);
+        self.no_comma_from = self.work.neutral_len();
+        self.count(outcome);
         Ok(())
     }
 }
 
 /// Makes a step that performs a call of a function that prints, and drops what it prints. None, with nothing changed,
-/// where it prints nothing. From the plain place on no comma mark stands in the neutral string.
-fn skip_printing(work: &mut Work, plain: u32) -> Option<Attempt>
-    requires plain { IsPlainFrom plain work.old.neutral }
+/// where it prints nothing. From place `no_comma_from` on no comma mark stands in the neutral string.
+fn skip_printing(work: &mut Work, no_comma_from: u32) -> Option<StepOutcome>
+    requires no_comma_from { HasNoCommaFrom no_comma_from work.old.neutral }
     requires prints { (meta : ℕ) → prints_output (performs (memory_of meta work.old)) ≡ true }
     ensures skipped { MatchOption result
         (((meta : ℕ) (input : Input) → step_prints (memory_of meta work.old) input ≡ [])
         × (work.new ≡ work.old))
-        (λ attempt. (attempt.fate ≡ None) × ((attempt.need ≤ work.old.room)
+        (λ outcome. (outcome.fate ≡ None) × ((outcome.need ≤ work.old.room)
         × (((meta : ℕ) (input : Input) → step_prints (memory_of meta work.old) input ≢ [])
         × ((meta : ℕ) (source : Stream) (written : Text) →
-        Tried (scene work.old meta source written) None attempt.need
+        Tried (scene work.old meta source written) None outcome.need
         (scene work.new meta source
         (written ++ step_prints (memory_of meta work.old) (ending source.bytes))))))) }
     ensures keeps { KeepsRoom work.old work.new }
 {
-    if printed_len(work, plain) == 0 {
+    if printed_len(work, no_comma_from) == 0 {
         return None;
     }
     let Some(place) = closed_call(work) else {
@@ -119,7 +119,7 @@ fn skip_printing(work: &mut Work, plain: u32) -> Option<Attempt>
 
 /// Deletes the right parenthesis that ends the innermost call, which prints, and has the call leave with its null
 /// value.
-fn end_printing(work: &mut Work, place: u32) -> Attempt
+fn end_printing(work: &mut Work, place: u32) -> StepOutcome
     requires closes { slice_get (text_of_cells work.old.active) 0 ≡ Some 41 }
     requires innermost { IsLastCall work.old.neutral place }
     requires prints { prints_output (function_at work.old.neutral place) ≡ true }
@@ -150,9 +150,14 @@ fn prints(function: Option<Function>) -> bool
 }
 
 /// How many bytes a step over these contents prints, which performs this function, where they are
-/// more than `free`. From the plain place on no comma mark stands in the neutral string.
-fn printed_past(work: &mut Work, plain: u32, function: Option<Function>, free: u64) -> Option<u32>
-    requires plain { IsPlainFrom plain work.old.neutral }
+/// more than `free`. From place `no_comma_from` on no comma mark stands in the neutral string.
+fn printed_past(
+    work: &mut Work,
+    no_comma_from: u32,
+    function: Option<Function>,
+    free: u64,
+) -> Option<u32>
+    requires no_comma_from { HasNoCommaFrom no_comma_from work.old.neutral }
     requires asked { (meta : ℕ) → function ≡ performs (memory_of meta work.old) }
     ensures past { (meta : ℕ) → MatchOption result
         ((input : Input) → length (step_prints (memory_of meta work.old) input) ≤ free)
@@ -163,7 +168,15 @@ fn printed_past(work: &mut Work, plain: u32, function: Option<Function>, free: u
 {
     match closed_call(work) {
         None => None,
-        Some(place) => call_past(work, InnermostCall { place, plain }, function, free),
+        Some(place) => call_past(
+            work,
+            InnermostCall {
+                place,
+                no_comma_from,
+            },
+            function,
+            free,
+        ),
     }
 }
 
@@ -176,7 +189,7 @@ fn call_past(
     free: u64,
 ) -> Option<u32>
     requires innermost { IsLastCall work.old.neutral call.place }
-    requires plain { IsPlainFrom call.plain work.old.neutral }
+    requires no_comma_from { HasNoCommaFrom call.no_comma_from work.old.neutral }
     requires named { function ≡ function_at work.old.neutral call.place }
     requires sound { IsSound work.old }
     ensures past { (meta : ℕ) → let printed = call_prints work.old call.place meta in
@@ -210,10 +223,10 @@ fn displays(function: Option<Function>) -> bool
     }
 }
 
-/// How many bytes a step over these contents prints. From the plain place on no comma mark stands in
+/// How many bytes a step over these contents prints. From place `no_comma_from` on no comma mark stands in
 /// the neutral string.
-fn printed_len(work: &mut Work, plain: u32) -> u32
-    requires { IsPlainFrom plain work.old.neutral }
+fn printed_len(work: &mut Work, no_comma_from: u32) -> u32
+    requires { HasNoCommaFrom no_comma_from work.old.neutral }
     ensures length { (meta : ℕ) (input : Input) →
         result ≡ length (step_prints (memory_of meta work.old) input) }
     ensures same { work.new ≡ work.old }
@@ -221,20 +234,26 @@ fn printed_len(work: &mut Work, plain: u32) -> u32
 {
     match closed_call(work) {
         None => 0,
-        Some(place) => call_len(work, InnermostCall { place, plain }),
+        Some(place) => call_len(
+            work,
+            InnermostCall {
+                place,
+                no_comma_from,
+            },
+        ),
     }
 }
 
 /// How many bytes the innermost call prints.
 fn call_len(work: &mut Work, call: InnermostCall) -> u32
     requires innermost { IsLastCall work.old.neutral call.place }
-    requires plain { IsPlainFrom call.plain work.old.neutral }
+    requires no_comma_from { HasNoCommaFrom call.no_comma_from work.old.neutral }
     ensures length { (meta : ℕ) (input : Input) →
         result ≡ length (call_prints work.old call.place meta input) }
     ensures same { work.new ≡ work.old }
     ensures sound { IsSound work.new }
 {
-    let (function, mut arguments) = named_at(work, call.place, call.plain);
+    let (function, mut arguments) = named_at(work, call.place, call.no_comma_from);
     let part = arguments.next(work);
     match function {
         None => 0,

@@ -6,7 +6,7 @@ ghost use Rattle.trac_functions.specs.Flat.{memory_of};
 ghost use Rattle.trac_core.specs.Performed.{performs};
 ghost use Rattle.trac_core.specs.Machine.{KeepsLimits};
 ghost use Rattle.trac_core.specs.Session.{awaited, next_function, report_of};
-ghost use Rattle.trac_core.specs.StepsInRow.{IsPlainFrom};
+ghost use Rattle.trac_core.specs.StepsInRow.{HasNoCommaFrom};
 
 use super::Machine;
 use super::closing::{closed_call, named_at};
@@ -40,7 +40,7 @@ impl<'a> Machine<'a> {
     {
         self.work.clear_active();
         self.work.clear_neutral();
-        self.plain = 0;
+        self.no_comma_from = 0;
         self.allowance = steps;
         self.steps = 0;
         self.peak = 0;
@@ -116,21 +116,21 @@ impl<'a> Machine<'a> {
         ensures { result ≡ next_function self.now }
     {
         if self.fate.is_none() && self.steps < self.allowance {
-            performed(&self.work, self.plain)
+            performed(&self.work, self.no_comma_from)
         } else {
             None
         }
     }
 }
 
-/// The function that a step over these contents performs. From the plain place on no comma mark
+/// The function that a step over these contents performs. From place `no_comma_from` on no comma mark
 /// stands in the neutral string.
-fn performed(work: &Work, plain: u32) -> Option<Function>
-    requires { IsPlainFrom plain work.now.neutral }
+fn performed(work: &Work, no_comma_from: u32) -> Option<Function>
+    requires { HasNoCommaFrom no_comma_from work.now.neutral }
     ensures { (meta : ℕ) → result ≡ performs (memory_of meta work.now) }
 {
     match closed_call(work) {
         None => None,
-        Some(place) => named_at(work, place, plain).0,
+        Some(place) => named_at(work, place, no_comma_from).0,
     }
 }

@@ -52,7 +52,7 @@ fn index_is_kept(rt: HostRuntime) {
     let used = work.used();
     wants_index(&mut work);
     assert!(rt; are_forms(&mut work, b"ABCDEFGHIJKLM"));
-    assert!(rt; work.space.spare_len() == 256);
+    assert!(rt; work.space.index_area_len() == 256);
     assert!(rt; work.used() == used);
     let Some(form) = find(&mut work, part(b'B')) else {
         panic!(rt; "no form")
@@ -74,7 +74,7 @@ fn index_is_kept(rt: HostRuntime) {
             && matches!(super::item(&work, form, 1), Some(Item::Gap(1)))
     );
     assert!(rt; are_forms(&mut work, b"ACEFGHIJKLMD"));
-    assert!(rt; work.space.spare_len() == 256);
+    assert!(rt; work.space.index_area_len() == 256);
 }
 
 #[test]
@@ -83,14 +83,14 @@ fn index_is_made_by_searches(rt: HostRuntime) {
     let mut work = with_forms(&mut block, 24);
     let mut made = 0;
     for search in 0..200u32 {
-        if made == 0 && work.space.spare_len() > 0 {
+        if made == 0 && work.space.index_area_len() > 0 {
             made = search;
         }
         // eleven forms behind the last one, or before it
         let letter = b'A' + (search * 11 % 24) as u8;
         assert!(rt; find(&mut work, part(letter)).is_some());
     }
-    assert!(rt; work.space.spare_len() == 128);
+    assert!(rt; work.space.index_area_len() == 128);
     // the first searches don't make the index; about as many as it costs do
     assert!(rt; 8 < made && made < 100);
 }
@@ -103,9 +103,9 @@ fn index_grows(rt: HostRuntime) {
     for letter in b"MNOP" {
         assert!(rt; define_letter(&mut work, *letter));
     }
-    assert!(rt; work.space.spare_len() == 64);
+    assert!(rt; work.space.index_area_len() == 64);
     assert!(rt; define_letter(&mut work, b'Q'));
-    assert!(rt; work.space.spare_len() == 128);
+    assert!(rt; work.space.index_area_len() == 128);
     assert!(rt; are_forms(&mut work, b"ABCDEFGHIJKLMNOPQ"));
 }
 
@@ -118,9 +118,9 @@ fn index_is_outgrown_and_cleared(rt: HostRuntime) {
     for letter in b"MNOP" {
         assert!(rt; define_letter(&mut work, *letter));
     }
-    assert!(rt; work.space.spare_len() == 64);
+    assert!(rt; work.space.index_area_len() == 64);
     assert!(rt; define_letter(&mut work, b'Q'));
-    assert!(rt; work.space.spare_len() == 0);
+    assert!(rt; work.space.index_area_len() == 0);
     assert!(rt; are_forms(&mut work, b"ABCDEFGHIJKLMNOPQ"));
     let Some(form) = find(&mut work, part(b'Q')) else {
         panic!(rt; "no form")
@@ -129,15 +129,15 @@ fn index_is_outgrown_and_cleared(rt: HostRuntime) {
     work.delete(form);
     wants_index(&mut work);
     assert!(rt; are_forms(&mut work, b"ABCDEFGHIJKLMNOP"));
-    assert!(rt; work.space.spare_len() == 128);
+    assert!(rt; work.space.index_area_len() == 128);
     work.delete_all();
-    assert!(rt; work.space.spare_len() == 128);
+    assert!(rt; work.space.index_area_len() == 128);
     assert!(rt; are_forms(&mut work, b""));
     assert!(rt; define_letter(&mut work, b'Z'));
     assert!(rt; are_forms(&mut work, b"Z"));
     // a table far too large for the forms is dropped
     work.delete_all();
-    assert!(rt; work.space.spare_len() == 0);
+    assert!(rt; work.space.index_area_len() == 0);
 }
 
 #[test]
@@ -149,14 +149,14 @@ fn index_gives_way(rt: HostRuntime) {
     work.clear_active();
     assert!(rt; work.load_active(b"active"));
     let free = work.free();
-    assert!(rt; work.space.spare_len() == 64 && free == 194);
+    assert!(rt; work.space.index_area_len() == 64 && free == 194);
     for _ in 0..130 {
         assert!(rt; work.push_neutral(Cell::Comma));
     }
-    assert!(rt; work.space.spare_len() == 64);
+    assert!(rt; work.space.index_area_len() == 64);
     for _ in 130..194 {
         assert!(rt; work.push_neutral(Cell::Comma));
-        assert!(rt; work.space.spare_len() == 0);
+        assert!(rt; work.space.index_area_len() == 0);
     }
     assert!(rt; !work.push_neutral(Cell::Comma) && work.free() == 0);
     assert!(rt; are_forms(&mut work, b"ABCDEFGHIJKLM"));
@@ -171,12 +171,12 @@ fn no_index_where_it_does_not_fit_twice(rt: HostRuntime) {
     assert!(rt; work.free() == 127);
     wants_index(&mut work);
     assert!(rt; are_forms(&mut work, b"ABCDEFGHIJKLM"));
-    assert!(rt; work.space.spare_len() == 0);
+    assert!(rt; work.space.index_area_len() == 0);
     let mut block = [Cell::Gap(7); 248];
     let mut work = with_forms(&mut block, 13);
     wants_index(&mut work);
     assert!(rt; are_forms(&mut work, b"ABCDEFGHIJKLM"));
-    assert!(rt; work.space.spare_len() == 64);
+    assert!(rt; work.space.index_area_len() == 64);
 }
 
 #[test]
@@ -185,5 +185,5 @@ fn no_index_of_few_forms(rt: HostRuntime) {
     let mut work = with_forms(&mut block, 11);
     wants_index(&mut work);
     assert!(rt; are_forms(&mut work, b"ABCDEFGHIJK"));
-    assert!(rt; work.space.spare_len() == 0);
+    assert!(rt; work.space.index_area_len() == 0);
 }

@@ -6,9 +6,9 @@ ghost use Rattle.std.specs.Bool.{OnTrue, OnFalse};
 ghost use Rattle.std.specs.Option.{option_map};
 ghost use Rattle.trac_space.specs.declared.cell.Cell.{Cell};
 ghost use Rattle.trac_space.specs.Cells.{seen, bytes};
-ghost use Rattle.trac_space.specs.Lists.{used, FitsBesideSpare, claimed};
+ghost use Rattle.trac_space.specs.Lists.{used, FitsBesideIndex, reserved};
 ghost use Rattle.trac_space.specs.Filled.{HaveCommas, filled};
-ghost use Rattle.trac_space.specs.Overlay.{under};
+ghost use Rattle.trac_space.specs.Tags.{untagged};
 ghost use Rattle.trac_space.specs.Texts.{IsByte, byte_cell_at};
 
 use super::Space;
@@ -16,7 +16,7 @@ use crate::byte_writing::write_bytes;
 use crate::cell::Cell;
 use crate::character_runs::{are_all_characters, characters_from};
 use crate::copies::{HIGHER, copy_apart};
-use crate::filling::{Given, fill_cells};
+use crate::filling::{ArgumentTable, fill_cells};
 
 impl<'a> Space<'a> {
     /// How many characters stand in a row from place `a` of the store on; counts up to place `b`.
@@ -33,7 +33,7 @@ impl<'a> Space<'a> {
 
     /// Copies the cells of the store from place `a` up to `b` to the front of active, each gap k replaced
     /// by argument k: the k-th part, from 1, between the comma marks of neutral from place `first` up to
-    /// `end`. These are `commas` marks, whose places `lay_commas` laid there. Gives how many cells these
+    /// `end`. These are `commas` marks, whose places `tag_commas` laid there. Gives how many cells these
     /// are. None, with nothing changed, if the copy doesn't fit beside the spare list.
     #[inline(always)]
     pub fn load_filled(&mut self, a: u32, b: u32, first: u32, end: u32, commas: u32) -> Option<u32>
@@ -42,17 +42,17 @@ impl<'a> Space<'a> {
         requires given_order { first ≤ end }
         requires given_within { end ≤ length self.old.neutral }
         requires commas { HaveCommas (slice_range self.old.neutral first end) commas }
-        ensures { let given = map under (slice_range self.old.neutral first end) in
+        ensures { let given = map untagged (slice_range self.old.neutral first end) in
             let more = filled given (slice_range self.old.store a b) in
             MatchOption result
             ((self.new ≡ self.old)
-            × (self.old.room < used self.old + length more + length self.old.spare))
-            (λ n. (length more ≡ n) × FitsBesideSpare n self.old
+            × (self.old.room < used self.old + length more + length self.old.index_area))
+            (λ n. (length more ≡ n) × FitsBesideIndex n self.old
             × (self.new ≡ record self.old { active = more ++ self.old.active })) }
     {
         let low = (self.store + self.neutral) as usize;
         let to = (self.end - self.active) as usize;
-        let given = Given {
+        let given = ArgumentTable {
             start: (self.store + first) as usize,
             len: (end - first) as usize,
             commas: commas as usize,
@@ -86,12 +86,12 @@ impl<'a> Space<'a> {
     pub fn load_active(&mut self, text: &[u8]) -> bool
         requires { self.old.active ≡ [] }
         ensures loaded { IsTrue result ↔ (used self.old + length text.now ≤ self.old.room) }
-        ensures is_text { OnTrue result (self.new ≡ record (claimed (length text.now) self.old) {
+        ensures is_text { OnTrue result (self.new ≡ record (reserved (length text.now) self.old) {
           active = bytes text.now;
         }) }
         ensures full { OnFalse result (self.new ≡ self.old) }
     {
-        if !self.try_claim(text.len()) {
+        if !self.try_reserve(text.len()) {
             return false;
         }
         self.load_bytes(text);
@@ -101,7 +101,7 @@ impl<'a> Space<'a> {
     /// Puts the bytes of `text` in front of active. They must fit beside the spare list.
     #[inline]
     pub fn load_bytes(&mut self, text: &[u8])
-        requires { FitsBesideSpare (length text.now) self.old }
+        requires { FitsBesideIndex (length text.now) self.old }
         ensures { self.new ≡ record self.old { active = bytes text.now ++ self.old.active } }
     {
         let active = self.active + text.len() as u32;
@@ -132,7 +132,7 @@ impl<'a> Space<'a> {
     pub fn load_from_neutral(&mut self, a: u32, b: u32)
         requires order { a ≤ b }
         requires within { b ≤ length self.old.neutral }
-        requires room { FitsBesideSpare (b - a) self.old }
+        requires room { FitsBesideIndex (b - a) self.old }
         ensures { self.new ≡ record self.old {
           active = slice_range self.old.neutral a b ++ self.old.active;
         } }
@@ -149,7 +149,7 @@ impl<'a> Space<'a> {
     pub fn load_from_store(&mut self, a: u32, b: u32)
         requires order { a ≤ b }
         requires within { b ≤ length self.old.store }
-        requires room { FitsBesideSpare (b - a) self.old }
+        requires room { FitsBesideIndex (b - a) self.old }
         ensures { self.new ≡ record self.old {
           active = slice_range self.old.store a b ++ self.old.active;
         } }
@@ -166,7 +166,7 @@ impl<'a> Space<'a> {
     pub fn load_characters(&mut self, a: u32, b: u32) -> bool
         requires order { a ≤ b }
         requires within { b ≤ length self.old.store }
-        requires room { FitsBesideSpare (b - a) self.old }
+        requires room { FitsBesideIndex (b - a) self.old }
         ensures bytes { IsTrue result → All IsByte (slice_range self.old.store a b) }
         ensures loaded { OnTrue result (self.new ≡ record self.old {
           active = slice_range self.old.store a b ++ self.old.active;

@@ -8,7 +8,7 @@ ghost use Rattle.trac_space.specs.Calls.{HasCallsUpTo, IsLinked, IsLastCall, up_
 ghost use Rattle.trac_space.specs.Arguments.{IsCallUpTo, arguments, IsArgument};
 
 use super::Space;
-use crate::cell::{Cell, is_comma, link, mode};
+use crate::cell::{Cell, frame_link, is_comma, mode};
 use trac_language::Mode;
 
 impl<'a> Space<'a> {
@@ -20,7 +20,7 @@ impl<'a> Space<'a> {
             (NoCall self.now.neutral)
             (λ place. IsLastCall self.now.neutral place) }
     {
-        self.behind_mark.checked_sub(1)
+        self.top_frame.checked_sub(1)
     }
 
     /// The place of the last call mark in neutral before the one at `place`, that of the call around. None if
@@ -48,13 +48,13 @@ impl<'a> Space<'a> {
 
     // The place behind the last call mark among the first `end` cells of neutral, 0 if there is none.
     #[inline]
-    pub(super) fn behind_mark_before(&self, end: u32) -> u32
+    pub(super) fn frame_before(&self, end: u32) -> u32
         requires { end ≤ length self.now.neutral }
         ensures { HasCallsUpTo (take end self.now.neutral) result }
     {
         let start = self.store as usize;
         let stop = (self.store + self.neutral) as usize;
-        behind_mark_in(&self.cells[start..stop], self.behind_mark, end)
+        top_frame_in(&self.cells[start..stop], self.top_frame, end)
     }
 
     /// How many arguments stand in neutral from the call mark at `call` up to `end`: one more than
@@ -85,7 +85,7 @@ impl<'a> Space<'a> {
 // The place behind the last call mark among the first `end` cells, 0 if there is none. `behind` is that
 // place among all the cells. Mostly only the last call mark is left out, which takes no loop.
 #[inline]
-fn behind_mark_in(neutral: &[Cell], behind: u32, end: u32) -> u32
+fn top_frame_in(neutral: &[Cell], behind: u32, end: u32) -> u32
     requires last { HasCallsUpTo neutral.now behind }
     requires linked { IsLinked neutral.now }
     requires within { end ≤ length neutral.now }
@@ -110,7 +110,7 @@ fn walk_back(neutral: &[Cell], behind: u32, end: u32) -> u32
     let mut behind = behind;
     while behind > end {
         let place = behind - 1;
-        behind = up_to(place, link(neutral[place as usize]));
+        behind = up_to(place, frame_link(neutral[place as usize]));
     }
     behind
 }
@@ -122,7 +122,7 @@ fn up_to_mark(neutral: &[Cell], place: u32) -> u32
     requires mark { IsCallAt neutral.now place }
     ensures { HasCallsUpTo (take place neutral.now) result }
 {
-    up_to(place, link(neutral[place as usize]))
+    up_to(place, frame_link(neutral[place as usize]))
 }
 
 // The place behind the call mark before the one at `place`, which has this number; 0 if there is none.

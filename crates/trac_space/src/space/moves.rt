@@ -9,7 +9,7 @@ ghost use Rattle.trac_space.specs.Texts.{IsByte};
 
 use super::Space;
 use crate::cell::Cell;
-use crate::character_runs::copy_turned;
+use crate::character_runs::translate_run;
 use crate::copies::{copy_cells, copy_mostly_apart};
 
 impl<'a> Space<'a> {
@@ -63,7 +63,7 @@ impl<'a> Space<'a> {
         ensures ends { result.0 < most →
             1 < number_in table.now (slice_index_or self.old.active result.0 (Byte 0)) }
         ensures last { result.1 ≤ result.0 }
-        ensures plain { NoComma (drop result.1 (turned table.now
+        ensures no_comma_from { NoComma (drop result.1 (turned table.now
             (take result.0 self.old.active))) }
         ensures moved { self.new ≡ record self.old {
           neutral = self.old.neutral ++ turned table.now (take result.0 self.old.active);
@@ -72,7 +72,7 @@ impl<'a> Space<'a> {
     {
         let start = (self.end - self.active) as usize;
         let to = (self.store + self.neutral) as usize;
-        let (count, last) = copy_turned(self.cells, start, to, most as usize, table);
+        let (count, last) = translate_run(self.cells, start, to, most as usize, table);
         self.neutral += count as u32;
         self.active -= count as u32;
         (count as u32, last as u32)
@@ -90,7 +90,7 @@ impl<'a> Space<'a> {
         } }
     {
         // The lists fit in the block.
-        prove!(self.free_beside_spare() <= self.room());
+        prove!(self.free_beside_index() <= self.room());
         self.drop_active(n);
         self.put_neutral(cell);
     }

@@ -7,30 +7,30 @@ ghost use Rattle.std.specs.Bool.{OnTrue, OnFalse};
 ghost use Rattle.trac_space.specs.declared.cell.Cell.{Cell};
 ghost use Rattle.trac_space.specs.declared.cell.Cell.TheVariants.{Byte};
 ghost use Rattle.trac_space.specs.Cells.{seen, bytes, IsNoCall, NoCall, NoComma};
-ghost use Rattle.trac_space.specs.Lists.{used, FitsBesideSpare, claimed};
+ghost use Rattle.trac_space.specs.Lists.{used, FitsBesideIndex, reserved};
 ghost use Rattle.trac_space.specs.Filled.{HaveCommas};
-ghost use Rattle.trac_space.specs.Overlay.{takes_number, under, HaveNumbers};
+ghost use Rattle.trac_space.specs.Tags.{takes_tag, untagged, HaveTags};
 
 use super::Space;
 use crate::byte_search::count_before;
 use crate::byte_writing::write_bytes;
 use crate::cell::{Cell, is_call, linked};
 use crate::copies::copy_cells;
-use crate::filling::lay_commas;
-use crate::overlay::lift;
+use crate::filling::tag_commas;
+use crate::tags::clear_tags;
 
 impl<'a> Space<'a> {
     /// Appends a cell to neutral. False, with nothing changed, if no cell is free.
     #[inline]
     pub fn push_neutral(&mut self, cell: Cell) -> bool
         ensures pushed { IsTrue result ↔ (used self.old < self.old.room) }
-        ensures last { OnTrue result (self.new ≡ record (claimed 1 self.old) {
+        ensures last { OnTrue result (self.new ≡ record (reserved 1 self.old) {
           neutral = self.old.neutral ++ seen cell ∷ [];
         }) }
         ensures full { OnFalse result (self.new ≡ self.old) }
     {
-        if self.free_beside_spare() == 0 {
-            return self.push_over_spare(cell);
+        if self.free_beside_index() == 0 {
+            return self.push_over_index(cell);
         }
         self.put_neutral(cell);
         true
@@ -39,16 +39,16 @@ impl<'a> Space<'a> {
     // Appends a cell to neutral where no cell is free beside the spare list, which is dropped for it. False,
     // with nothing changed, if no cell is free at all.
     #[inline(never)]
-    fn push_over_spare(&mut self, cell: Cell) -> bool
-        requires { self.old.room ≤ used self.old + length self.old.spare }
+    fn push_over_index(&mut self, cell: Cell) -> bool
+        requires { self.old.room ≤ used self.old + length self.old.index_area }
         ensures pushed { IsTrue result ↔ (used self.old < self.old.room) }
         ensures last { OnTrue result (self.new ≡ record self.old {
           neutral = self.old.neutral ++ seen cell ∷ [];
-          spare = [];
+          index_area = [];
         }) }
         ensures full { OnFalse result (self.new ≡ self.old) }
     {
-        if !self.try_claim_spare(1) {
+        if !self.try_reserve_without_index(1) {
             return false;
         }
         self.put_neutral(cell);
@@ -58,20 +58,20 @@ impl<'a> Space<'a> {
     /// Appends a cell to neutral. A cell must be free beside the spare list.
     #[inline]
     pub fn put_neutral(&mut self, cell: Cell)
-        requires { FitsBesideSpare 1 self.old }
+        requires { FitsBesideIndex 1 self.old }
         ensures { self.new ≡ record self.old { neutral = self.old.neutral ++ seen cell ∷ [] } }
     {
         let place = self.neutral;
-        let behind = self.behind_mark;
+        let behind = self.top_frame;
         self.cells[(self.store + place) as usize] = linked(cell, place, behind);
-        self.behind_mark = if is_call(&cell) { place + 1 } else { behind };
+        self.top_frame = if is_call(&cell) { place + 1 } else { behind };
         self.neutral = place + 1;
     }
 
     /// Appends cells to neutral. They must fit beside the spare list.
     #[inline(always)]
     pub fn put_cells(&mut self, cells: &[Cell])
-        requires { FitsBesideSpare (length cells.now) self.old }
+        requires { FitsBesideIndex (length cells.now) self.old }
         ensures { self.new ≡ record self.old {
           neutral = self.old.neutral ++ map seen cells.now;
         } }
@@ -84,12 +84,12 @@ impl<'a> Space<'a> {
     /// Appends the bytes of `text` to neutral. False, with nothing changed, if they don't fit.
     pub fn push_bytes(&mut self, text: &[u8]) -> bool
         ensures pushed { IsTrue result ↔ (used self.old + length text.now ≤ self.old.room) }
-        ensures last { OnTrue result (self.new ≡ record (claimed (length text.now) self.old) {
+        ensures last { OnTrue result (self.new ≡ record (reserved (length text.now) self.old) {
           neutral = self.old.neutral ++ bytes text.now;
         }) }
         ensures full { OnFalse result (self.new ≡ self.old) }
     {
-        if !self.try_claim(text.len()) {
+        if !self.try_reserve(text.len()) {
             return false;
         }
         self.put_bytes(text);
@@ -99,7 +99,7 @@ impl<'a> Space<'a> {
     // Appends the bytes of `text` to neutral. They must fit beside the spare list.
     #[inline]
     fn put_bytes(&mut self, text: &[u8])
-        requires { FitsBesideSpare (length text.now) self.old }
+        requires { FitsBesideIndex (length text.now) self.old }
         ensures { self.new ≡ record self.old { neutral = self.old.neutral ++ bytes text.now } }
     {
         let start = (self.store + self.neutral) as usize;
@@ -115,13 +115,13 @@ impl<'a> Space<'a> {
         ensures stops { result < length text.now →
             (slice_get text.now result ≡ Some stop) ⊎ (self.new.room ≤ used self.new) }
         ensures fits { used self.old + result ≤ self.old.room }
-        ensures last { self.new ≡ record (claimed result self.old) {
+        ensures last { self.new ≡ record (reserved result self.old) {
           neutral = self.old.neutral ++ bytes (take result text.now);
         } }
     {
         let most = text.len().min(self.free() as usize);
         let count = count_before(stop, &text[..most]);
-        self.claim(count as u32);
+        self.reserve(count as u32);
         self.put_bytes(&text[..count]);
         count
     }
@@ -134,12 +134,12 @@ impl<'a> Space<'a> {
         requires within { b ≤ length self.old.neutral }
         requires no_call { NoCall (slice_range self.old.neutral a b) }
         ensures copied { IsTrue result ↔ (used self.old + (b - a) ≤ self.old.room) }
-        ensures last { OnTrue result (self.new ≡ record (claimed (b - a) self.old) {
+        ensures last { OnTrue result (self.new ≡ record (reserved (b - a) self.old) {
           neutral = self.old.neutral ++ slice_range self.old.neutral a b;
         }) }
         ensures full { OnFalse result (self.new ≡ self.old) }
     {
-        if !self.try_claim((b - a) as usize) {
+        if !self.try_reserve((b - a) as usize) {
             return false;
         }
         self.put_from_neutral(a, b);
@@ -152,7 +152,7 @@ impl<'a> Space<'a> {
         requires order { a ≤ b }
         requires within { b ≤ length self.old.neutral }
         requires no_call { NoCall (slice_range self.old.neutral a b) }
-        requires room { FitsBesideSpare (b - a) self.old }
+        requires room { FitsBesideIndex (b - a) self.old }
         ensures { self.new ≡ record self.old {
           neutral = self.old.neutral ++ slice_range self.old.neutral a b;
         } }
@@ -171,12 +171,12 @@ impl<'a> Space<'a> {
         requires within { b ≤ length self.old.store }
         requires no_call { NoCall (slice_range self.old.store a b) }
         ensures copied { IsTrue result ↔ (used self.old + (b - a) ≤ self.old.room) }
-        ensures last { OnTrue result (self.new ≡ record (claimed (b - a) self.old) {
+        ensures last { OnTrue result (self.new ≡ record (reserved (b - a) self.old) {
           neutral = self.old.neutral ++ slice_range self.old.store a b;
         }) }
         ensures full { OnFalse result (self.new ≡ self.old) }
     {
-        if !self.try_claim((b - a) as usize) {
+        if !self.try_reserve((b - a) as usize) {
             return false;
         }
         self.put_from_store(a, b);
@@ -190,7 +190,7 @@ impl<'a> Space<'a> {
         requires order { a ≤ b }
         requires within { b ≤ length self.old.store }
         requires no_call { NoCall (slice_range self.old.store a b) }
-        requires room { FitsBesideSpare (b - a) self.old }
+        requires room { FitsBesideIndex (b - a) self.old }
         ensures { self.new ≡ record self.old {
           neutral = self.old.neutral ++ slice_range self.old.store a b;
         } }
@@ -201,21 +201,21 @@ impl<'a> Space<'a> {
     }
 
     /// Lays the places of the comma marks of neutral from place `first` up to `end` over the first cells
-    /// there, and gives how many they are. None stands from place `plain` up to `end`. `lift_neutral`
+    /// there, and gives how many they are. None stands from place `no_comma_from` up to `end`. `clear_neutral_tags`
     /// takes them off again.
     #[inline(always)]
-    pub fn lay_commas(&mut self, first: u32, end: u32, plain: u32) -> u32
+    pub fn tag_commas(&mut self, first: u32, end: u32, no_comma_from: u32) -> u32
         requires order { first ≤ end }
         requires within { end ≤ length self.old.neutral }
-        requires plain { NoComma (slice_range self.old.neutral plain end) }
+        requires no_comma_from { NoComma (slice_range self.old.neutral no_comma_from end) }
         requires takes { let cells = slice_range self.old.neutral first end in
-            All (λ cell. IsTrue (takes_number cell)) cells }
+            All (λ cell. IsTrue (takes_tag cell)) cells }
         ensures commas { HaveCommas (slice_range self.new.neutral first end) result }
-        ensures numbers { HaveNumbers self.old.neutral self.new.neutral first end }
+        ensures numbers { HaveTags self.old.neutral self.new.neutral first end }
         ensures same { self.new ≡ record self.old { neutral = self.new.neutral } }
     {
         let cells = &mut self.cells[(self.store + first) as usize..(self.store + end) as usize];
-        lay_commas(cells, (plain.max(first).min(end) - first) as usize) as u32
+        tag_commas(cells, (no_comma_from.max(first).min(end) - first) as usize) as u32
     }
 
     /// Replaces the cell at place `i` of neutral. Neither the old nor the new one may be a call mark.
@@ -231,15 +231,15 @@ impl<'a> Space<'a> {
 
     /// Takes the numbers that lie over the cells of neutral from place `a` up to `b` off them.
     #[inline(always)]
-    pub fn lift_neutral(&mut self, a: u32, b: u32)
+    pub fn clear_neutral_tags(&mut self, a: u32, b: u32)
         requires order { a ≤ b }
         requires within { b ≤ length self.old.neutral }
-        ensures { let cells = map under (slice_range self.old.neutral a b) in
+        ensures { let cells = map untagged (slice_range self.old.neutral a b) in
             self.new ≡ record self.old {
               neutral = take a self.old.neutral ++ cells ++ drop b self.old.neutral;
             } }
     {
-        lift(&mut self.cells[(self.store + a) as usize..(self.store + b) as usize]);
+        clear_tags(&mut self.cells[(self.store + a) as usize..(self.store + b) as usize]);
     }
 
     /// Empties neutral, its open calls included.
@@ -247,7 +247,7 @@ impl<'a> Space<'a> {
         ensures { self.new ≡ record self.old { neutral = [] } }
     {
         self.neutral = 0;
-        self.behind_mark = 0;
+        self.top_frame = 0;
     }
 
     /// Removes all but the first `n` cells of neutral. Looks at each call mark that it removes.
@@ -256,8 +256,8 @@ impl<'a> Space<'a> {
         requires { n ≤ length self.old.neutral }
         ensures { self.new ≡ record self.old { neutral = take n self.old.neutral } }
     {
-        let behind_mark = self.behind_mark_before(n);
-        self.behind_mark = behind_mark;
+        let top_frame = self.frame_before(n);
+        self.top_frame = top_frame;
         self.neutral = n;
     }
 
@@ -273,9 +273,9 @@ impl<'a> Space<'a> {
         let start = (self.store + b) as usize;
         let end = (self.store + self.neutral) as usize;
         let to = (self.store + a) as usize;
-        let behind_mark = self.behind_mark_before(a);
+        let top_frame = self.frame_before(a);
         copy_cells(self.cells, start, end, to);
         self.neutral -= b - a;
-        self.behind_mark = behind_mark;
+        self.top_frame = top_frame;
     }
 }

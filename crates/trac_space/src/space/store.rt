@@ -3,7 +3,7 @@ ghost use Rattle.std.specs.Prelude.{◌≡◌, ◌+◌, ◌-◌, ◌≤◌, ◌<
 ghost use Rattle.std.specs.Prelude.{slice_set, slice_range};
 ghost use Rattle.trac_space.specs.declared.cell.Cell.{Cell};
 ghost use Rattle.trac_space.specs.Cells.{IsNoCall};
-ghost use Rattle.trac_space.specs.Lists.{FitsBesideSpare};
+ghost use Rattle.trac_space.specs.Lists.{FitsBesideIndex};
 
 use super::Space;
 use crate::cell::Cell;
@@ -13,7 +13,7 @@ impl<'a> Space<'a> {
     /// Appends `n` cells to the store, which are unspecified. They must fit beside the spare list.
     #[inline(always)]
     pub fn open_store(&mut self, n: u32)
-        requires { FitsBesideSpare n self.old }
+        requires { FitsBesideIndex n self.old }
         ensures { (more : List Cell) × (length more ≡ n)
             × (self.new ≡ record self.old { store = self.old.store ++ more }) }
     {

@@ -8,8 +8,8 @@ ghost use Rattle.trac_warnings.specs.Looked.{Looks, LooksAtEnd, LooksAtMark, aro
 ghost use Rattle.trac_warnings.specs.Looked.{is_inside, is_stray, place_of, places_of};
 ghost use Rattle.trac_warnings.specs.Looked.{stray_warnings};
 ghost use Rattle.trac_warnings.specs.Performed.{Warns, function_of, has_odd_operand};
-ghost use Rattle.trac_warnings.specs.Told.{drop_warnings, is_arithmetic, is_null, lowered};
-ghost use Rattle.trac_warnings.specs.Told.{open_warnings, result_warnings, without_last};
+ghost use Rattle.trac_warnings.specs.StepWarnings.{drop_warnings, is_arithmetic, is_null, lowered};
+ghost use Rattle.trac_warnings.specs.StepWarnings.{open_warnings, result_warnings, without_last};
 ghost use Rattle.trac_warnings.specs.Watched.{Kept, KeepsPlaces, KeepsRun, said};
 
 use super::{OpenString, Watch};
@@ -39,7 +39,7 @@ impl<A: Allocator + Copy> Watch<A> {
             self.old.warnings.items self.new.warnings.items) }
         ensures stays { KeepsPlaces self.old self.new }
     {
-        self.tell_stray(before.active)?;
+        self.warn_of_stray(before.active)?;
         match machine.call_mark(0) {
             None => Ok(()),
             Some(mark) => self.look_at_call(machine, mark.place, input),
@@ -47,7 +47,7 @@ impl<A: Allocator + Copy> Watch<A> {
     }
 
     // Warns of a right parenthesis that ends no call of its string.
-    fn tell_stray(&mut self, active: usize) -> Result<(), AllocError>
+    fn warn_of_stray(&mut self, active: usize) -> Result<(), AllocError>
         ensures kept { Kept self.old.warnings.items self.new.warnings.items }
         ensures said { OnOk result (Warns self.old.warnings.items self.new.warnings.items
             (stray_warnings self.old active)) }
@@ -121,7 +121,7 @@ impl<A: Allocator + Copy> Watch<A> {
     }
 
     // Warns of a left parenthesis that has no match, with the characters of its string that are dropped.
-    pub(super) fn tell_protection(
+    pub(super) fn warn_of_protection(
         &mut self,
         before: &Before,
         origin: Origin,
@@ -149,7 +149,7 @@ impl<A: Allocator + Copy> Watch<A> {
     }
 
     // Looks at a call that was performed. Afterwards the strings have `active` and `neutral` cells.
-    pub(super) fn tell_call(
+    pub(super) fn warn_of_call(
         &mut self,
         before: &Before,
         active: usize,
@@ -164,14 +164,14 @@ impl<A: Allocator + Copy> Watch<A> {
         ensures runs { self.new.runs.items ≡ self.old.runs.items }
         ensures read { self.new.read ≡ self.old.read }
     {
-        self.tell_result(before, active, neutral)?;
+        self.warn_of_result(before, active, neutral)?;
         self.keep_form()?;
         self.close_call()
     }
 
     // Warns of a call of arithmetic that has no result, unless something is suspicious in what it computes
     // with.
-    fn tell_result(
+    fn warn_of_result(
         &mut self,
         before: &Before,
         active: usize,
@@ -248,7 +248,7 @@ impl<A: Allocator + Copy> Watch<A> {
 
 // Warns of calls that are still open.
 #[tactic(auto, using(crate::proofs::Keeping::keeping))]
-pub(super) fn tell_open_calls<A: Allocator + Copy>(
+pub(super) fn warn_of_open_calls<A: Allocator + Copy>(
     warnings: &mut Vec<Warning<A>, A>,
     alloc: A,
     calls: &[Origin],

@@ -3,11 +3,11 @@ ghost use Rattle.std.specs.Prelude.{◌≡◌, ◌<◌, ◌&&◌, [], OnOk, drop
 ghost use Rattle.trac_warnings.specs.Looked.{Looks};
 ghost use Rattle.trac_warnings.specs.Origins.{in_input};
 ghost use Rattle.trac_warnings.specs.Performed.{Warns};
-ghost use Rattle.trac_warnings.specs.Told.{end_warnings, ended, is_dropped_last, is_ended_at};
-ghost use Rattle.trac_warnings.specs.Told.{is_protection, left_open, not_ended};
+ghost use Rattle.trac_warnings.specs.StepWarnings.{end_warnings, ended, is_dropped_last, is_ended_at};
+ghost use Rattle.trac_warnings.specs.StepWarnings.{is_protection, left_open, not_ended};
 ghost use Rattle.trac_warnings.specs.Watched.{Kept, KeepsRun, said};
 
-use super::calls::{calls_beyond, tell_open_calls};
+use super::calls::{calls_beyond, warn_of_open_calls};
 use super::{OpenString, Watch};
 use crate::origin::Origin;
 use crate::performed::warn;
@@ -19,7 +19,7 @@ use trac_core::ScanningRule;
 impl<A: Allocator + Copy> Watch<A> {
     // Looks at the strings that ended with a step by this rule. The step left `active` cells in the active
     // string, and the first of them was written `here`.
-    pub(super) fn tell_ends(
+    pub(super) fn warn_of_ends(
         &mut self,
         rule: ScanningRule,
         active: usize,
@@ -42,13 +42,13 @@ impl<A: Allocator + Copy> Watch<A> {
                 self.strings.push(string)?;
                 return Ok(());
             }
-            self.tell_end(string, is_unmatched(rule, active, string.rest), here)?;
+            self.warn_of_end(string, is_unmatched(rule, active, string.rest), here)?;
         }
         Ok(())
     }
 
     // Looks at the end of a string, which is `here`, and in which a left parenthesis may have no match.
-    fn tell_end(
+    fn warn_of_end(
         &mut self,
         string: OpenString,
         is_unmatched: bool,
@@ -60,7 +60,7 @@ impl<A: Allocator + Copy> Watch<A> {
             self.old.calls.items string)) }
         ensures stays { KeepsRun self.old self.new }
     {
-        self.tell_left_open(string.depth, is_unmatched, here)?;
+        self.warn_of_left_open(string.depth, is_unmatched, here)?;
         if !string.is_ended || !is_unmatched && self.calls.len() <= string.depth {
             return Ok(());
         }
@@ -76,7 +76,7 @@ impl<A: Allocator + Copy> Watch<A> {
 
     // Warns of a left parenthesis that has no match, unless it is told already, or of the open calls beyond
     // the outermost `depth`.
-    fn tell_left_open(
+    fn warn_of_left_open(
         &mut self,
         depth: usize,
         is_unmatched: bool,
@@ -90,7 +90,7 @@ impl<A: Allocator + Copy> Watch<A> {
     {
         if !is_unmatched {
             let open = calls_beyond(&self.calls, depth);
-            return tell_open_calls(&mut self.warnings, self.alloc, open);
+            return warn_of_open_calls(&mut self.warnings, self.alloc, open);
         }
         if self.is_dropped() {
             return Ok(());

@@ -7,7 +7,7 @@ ghost use Rattle.trac_warnings.specs.Origins.{in_input};
 ghost use Rattle.trac_warnings.specs.Watched.{KeepsNames};
 
 use super::calls::places_of;
-use super::{Watch, Written};
+use super::{DefinitionSite, Watch};
 use crate::origin::Origin;
 use crate::performed::characters_of;
 use std::alloc::{AllocError, Allocator};
@@ -113,7 +113,7 @@ impl<A: Allocator + Copy> Watch<A> {
                 self.names.len().saturating_sub(1)
             }
         };
-        self.written.insert(name, Written { number, body })?;
+        self.written.insert(name, DefinitionSite { number, body })?;
         Ok(())
     }
 }

@@ -3,8 +3,8 @@ ghost use Rattle.std.specs.Prelude.{◌≡◌, ◌≤◌, [], OnOk, length, min,
 ghost use Rattle.trac_warnings.specs.Looked.{Looks};
 ghost use Rattle.trac_warnings.specs.Origins.{first_origin, in_input, moved, origin_at};
 ghost use Rattle.trac_warnings.specs.Performed.{Warns};
-ghost use Rattle.trac_warnings.specs.Told.{curly_for, is_ended_at, open_text, read_warnings, strings_read};
-ghost use Rattle.trac_warnings.specs.Told.{text_warnings, with_string};
+ghost use Rattle.trac_warnings.specs.StepWarnings.{curly_for, is_ended_at, open_text, read_warnings, strings_read};
+ghost use Rattle.trac_warnings.specs.StepWarnings.{text_warnings, with_string};
 ghost use Rattle.trac_warnings.specs.Watched.{Adds, EndsText, Kept, KeepsRun, ReadsLen, end_of_text};
 ghost use Rattle.trac_warnings.specs.Watched.{said};
 
@@ -24,7 +24,7 @@ use trac_space::Cell;
 #[tactic(auto, using(crate::proofs::Keeping::keeping))]
 impl<A: Allocator + Copy> Watch<A> {
     // Looks at what a step read: its value, behind which `active` cells stand in the active string.
-    pub(super) fn tell_read(
+    pub(super) fn warn_of_read(
         &mut self,
         before: &Before,
         value: &[Cell],
@@ -43,7 +43,7 @@ impl<A: Allocator + Copy> Watch<A> {
         ensures calls { self.new.calls.items ≡ self.old.calls.items }
     {
         match before.awaits {
-            Awaits::Text => self.tell_string(before, value.len(), active, input),
+            Awaits::Text => self.warn_of_string(before, value.len(), active, input),
             Awaits::Byte => {
                 let end = self.read.saturating_add(value.len());
                 self.read = end.min(input.len());
@@ -93,7 +93,7 @@ impl<A: Allocator + Copy> Watch<A> {
     }
 
     // Looks at a string of `len` characters that was read, behind which `active` cells are active.
-    fn tell_string(
+    fn warn_of_string(
         &mut self,
         before: &Before,
         len: usize,
@@ -115,13 +115,13 @@ impl<A: Allocator + Copy> Watch<A> {
     {
         let start = self.read.min(input.len());
         let end = start.saturating_add(len).min(input.len());
-        self.tell_text(start, end, before.meta, input)?;
+        self.warn_of_read_text(start, end, before.meta, input)?;
         self.read = behind_text(end, before.meta, input);
         self.open_string(before, end, active, input)
     }
 
     // Warns of a string that stands between two places of the input, unless a meta character ends it.
-    fn tell_text(
+    fn warn_of_read_text(
         &mut self,
         start: usize,
         end: usize,

@@ -4,7 +4,7 @@ use Rattle.trac_c.proofs.Imports.{ap, sym, ◌∙◌, arith}
 use Rattle.trac_checker.specs.WrittenBytes.{bytes_of}
 use Rattle.trac_devices.specs.Devices.{Prints, failures_of}
 use Rattle.trac_language.specs.Meaning.{show_form}
-use Rattle.trac_c.proofs.Roomy.{same-buffer}
+use Rattle.trac_c.proofs.Overflow.{same-buffer}
 use Rattle.trac_c.proofs.forms.show_part.Goals as goal
 
 -- what was put to a sink that never fails

@@ -1,5 +1,5 @@
 -- `trac_engine_open` refuses a number of cells, or fills the block, lends it for good, and writes the machine over it to its place. Assumes `Logic`.
-use Rattle.trac_c.proofs.Walking.{ℕ, ◌≤◌, ◌<◌, ◌^◌, arith, ◌≡◌, refl, ap, ◌∙◌, List, [], ◌∷◌, ◌++◌, inl, inr, lit<, ltb→lt, nltb→le, length, ftrue, flft, froom, full_share, id⊢, emp, fact, fact_i, tables, Array, u32, u64, Is, shows, part_at, uint_vals, uint_Tells, uint_Makes, RattleType, Ptr, block_ptr, rawptr_vals, rawptr_Tells, in_a_block, lies_at, room_at, slice_val, nothing, owned, peeks, heard, calls_at, lasts, on_entry, triple_of, framed, w32, w64, erased, Val, vint, WpFn, alloc_all, pass_all, free_all, look_at, get, sets, lands_as, through, env, ‵, raw, ◌⊛◌, some, later, prop, ◌$◌, ◌∵◌, !, qed, move, drop, use0, use1, use2, join, split, pick, await, rewrite, regoal, fjoin, fpack, at_ret, agg, stop, no_more, and_then, returns, returns_within, enter, of_opd, lit, bin, init, assigns, first, skips, branches, exec, MachineState, made, machine, Owed, meets_by, gives}
+use Rattle.trac_c.proofs.Walking.{ℕ, ◌≤◌, ◌<◌, ◌^◌, arith, ◌≡◌, refl, ap, ◌∙◌, List, [], ◌∷◌, ◌++◌, inl, inr, lit<, ltb→lt, nltb→le, length, ftrue, flft, froom, full_share, id⊢, emp, fact, fact_i, tables, Array, u32, u64, Is, shows, part_at, uint_vals, uint_Tells, uint_Makes, RattleType, Ptr, block_ptr, rawptr_vals, rawptr_Tells, in_a_block, lies_at, room_at, slice_val, nothing, owned, peeks, heard, calls_at, lasts, on_entry, triple_of, framed, w32, w64, erased, Val, vint, WpFn, alloc_all, pass_all, free_all, look_at, get, sets, lands_as, through, env, ‵, raw, ◌⊛◌, some, later, prop, ◌$◌, ◌∵◌, !, qed, move, drop, use0, use1, use2, join, split, pick, await, rewrite, regoal, fjoin, fpack, at_ret, agg, stop, no_more, and_then, returns, returns_within, enter, of_opd, lit, bin, init, assigns, first, skips, branches, exec, MachineState, fresh_machine, machine, Owed, meets_by, gives}
 use borrow.Table.OneValue.{reroom, part_in_at}
 use denote.Param.{layout}
 use Rattle.trac_space.specs.contracts.cell.Cell as C
@@ -55,7 +55,7 @@ trac_engine_open_spec 𝓤 𝓛 𝓜 𝓡 wired =
     use0 𝓛 (raw (fact 𝓤 (length xs ≤ 16777216))) (fact_i 𝓤 (length xs ≤ 16777216) (emp 𝓤) (omega arith)) $ move ! (1 ∷ 0 ∷ []) $ join ! $ use1 𝓛 (raw (G.pre x)) (id⊢ 𝓤 (G.pre x)) $
     calls_at ! (framed 𝓤 𝓛.H 𝓜 𝓣) G (over_thm.met 𝓤 𝓛 𝓜 𝓡 (code.calls-trac_core::Machine::over 𝓡.env wired)) x (and_then ! (get ! refl) (and_then ! (get ! refl) (no_more !))) (λ w.
     use1 𝓛 (later (some (λ (r : MachineState). ((‵ (flft [] full_share) ⊛ ‵ ftrue) ⊛ ‵ (R'.own_val r (w ∷ []))) ⊛
-    some (λ (zs : Unit {0} × (Unit {0} × Unit {0})). ‵ (lasts over.ended x.0.0 x.0.3 zs) ⊛ raw (fact 𝓤 (r ≡ made (length xs) k)))))) (id⊢ 𝓤 _) $
+    some (λ (zs : Unit {0} × (Unit {0} × Unit {0})). ‵ (lasts over.ended x.0.0 x.0.3 zs) ⊛ raw (fact 𝓤 (r ≡ fresh_machine (length xs) k)))))) (id⊢ 𝓤 _) $
     await ! tt $ pick ! (λ m. split ! $ split ! $ drop ! $ move ! (1 ∷ []) $ pick ! (λ zs. split ! $ drop ! $ heard ! _ (λ is_made.
     -- [the machine's value; its room]
     peeks ! R' (Is R') (shows 𝓛 R') m (w ∷ []) (λ is.
@@ -64,7 +64,7 @@ trac_engine_open_spec 𝓤 𝓛 𝓜 𝓡 wired =
     use1 𝓛 (‵ (froom (layout R') b₀ o₀)) (reroom 𝓛 (layout machine) (layout R') refl b₀ o₀) $
     assigns ! (of_opd ! (get ! refl)) (through ! refl (stop !)) (init ! 0 refl wt) $
     use2 𝓛 (‵ (part_at machine full_share m b₀ o₀)) (part_in_at 𝓛 machine refl full_share m b₀ o₀ (layout R') refl w) $
-    rewrite ! 0 (λ (m' : MachineState). ‵ (lies_at machine full_share p₀ m')) (is_made ∙ ap (λ (j : ℕ). made j k) ln) refl $
+    rewrite ! 0 (λ (m' : MachineState). ‵ (lies_at machine full_share p₀ m')) (is_made ∙ ap (λ (j : ℕ). fresh_machine j k) ln) refl $
     fpack ! (Opening n 0) (opened_by n k p₀ p 0) (inl (le, refl)) $
     sets ! (of_opd ! (lit ! tt)) refl (tt, record { fits = lit< tt }) $ returns ! (look_at ! 0 refl) $ free_all ! refl $
     use0 𝓛 (raw (emp 𝓤)) (id⊢ 𝓤 _) $ nothing ! $ nothing ! $ fjoin ! $ nothing ! $ fjoin ! $ nothing ! $ fjoin ! $ nothing ! $ fjoin ! $ move ! (2 ∷ []) $

@@ -8,8 +8,8 @@ use Rattle.trac_c.proofs.StepLines.{tells-lost, tells-step, told-end, told-lines
 use Rattle.trac_c.specs.declared.trace.TracTrace.{TracTrace}
 use Rattle.trac_c.proofs.trace.show_in.Goals as goal
 
-pub returns-in-Ok-lay_told : goal.returns-in-Ok-lay_told
-returns-in-Ok-lay_told g c =
+pub returns-in-Ok-lay_lines : goal.returns-in-Ok-lay_lines
+returns-in-Ok-lay_lines g c =
     let trace = c.args.trace.now in
     let old = c.args.machine.now in
     let next = c.one_step-turn.new.machine in
@@ -19,12 +19,12 @@ returns-in-Ok-lay_told g c =
     let buffer = c.one_step-turn.new.output in
     let first = c.resumed-shown.result in
     let looked = c.look.new.self in
-    let told = c.tell-told.new.self in
-    let tells = c.tell-told.ensures in
+    let told = c.add_lines-added.new.self in
+    let tells = c.add_lines-added.ensures in
     let seen = c.in-Ok.ensures in
-    let laid = c.in-Ok-lay_told.ensures in
+    let laid = c.in-Ok-lay_lines.ensures in
     let b = c.behind-after.result in
-    let after : TracTrace = record b { lines = c.in-Ok-lay_told.lines.bytes; shown = c.in-Ok-lay_told.lines.step } in
+    let after : TracTrace = record b { lines = c.in-Ok-lay_lines.lines.bytes; shown = c.in-Ok-lay_lines.lines.step } in
     let views_is : first.views ≡ views_of trace = c.resumed-shown.ensures.0 ∙ c.views.ensures in
     let look_is = seen.views ∙ views_is in
     let around_is : first.depth ≡ trace.depth = c.resumed-shown.ensures.1 ∙ ap (λ (p : Progress). p.depth) c.progress.ensures in
@@ -35,7 +35,7 @@ returns-in-Ok-lay_told g c =
     let peak_is : b.peak ≡ max trace.peak next.peak = sym found ∙ tells.peak ∙ ap (λ p. max p c.take_peak-need.result) before_is ∙ ap (max trace.peak) c.take_peak-need.ensures.peak in
     let are =
     are-lines (views_of trace) first.views looked.views old m c.in-Ok.before first.depth told.depth c.fate_of-fate.result c.take_peak-need.result looked.arguments.items looked.named looked.deleted.items (take turn.written buffer) (take turn.written buffer) looked.lines.items told.lines.items
-    views_is look_is refl seen.cleared seen.seen depth_is tells.hidden (λ told shown. when-ok c.tell-told.result _ laid.worked (tells.steps told shown)) seen.kept (λ told shown. when-ok c.tell-told.result _ laid.worked (tells.calls told shown)) in
+    views_is look_is refl seen.cleared seen.seen depth_is tells.hidden (λ told shown. when-ok c.add_lines-added.result _ laid.worked (tells.steps told shown)) seen.kept (λ told shown. when-ok c.add_lines-added.result _ laid.worked (tells.calls told shown)) in
     inr (
       turn,
       (
@@ -44,7 +44,7 @@ returns-in-Ok-lay_told g c =
           c.one_step-turn.ensures.stepped,
           (
             m_is,
-            tells-step trace after turn _ _ _ _ told.lines.items laid.ok.0 (sym c.is_waiting.ensures ∙ c.if-is_waiting.false) c.reported-in-Ok-lay_told.ensures
+            tells-step trace after turn _ _ _ _ told.lines.items laid.ok.0 (sym c.is_waiting.ensures ∙ c.if-is_waiting.false) c.reported-in-Ok-lay_lines.ensures
                 (told-lines trace after turn buffer old next m first.depth told.depth c.take_peak-need.result c.fate_of-fate.result told.lines.items around_is depth_so c.fate_of-fate.ensures c.take_peak-need.ensures.peak m_is are)
                 (told-end told.views (views_of trace) c.fate_of-fate.result _ told.peak _ m (uncounted next) told.lines.items laid.ok.0 (tells.views ∙ look_is) c.fate_of-fate.ensures found m_is laid.ok.1.0)
                 laid.ok.1.1
@@ -64,8 +64,8 @@ returns g c =
     let turn = c.one_step-turn.result in
     let first = c.resumed-shown.result in
     let looked = c.look.new.self in
-    let told = c.tell-told.new.self in
-    let tells = c.tell-told.ensures in
+    let told = c.add_lines-added.new.self in
+    let tells = c.add_lines-added.ensures in
     let seen = c.in-Ok.ensures in
     let b = c.behind-after.result in
     let around_is : first.depth ≡ trace.depth = c.resumed-shown.ensures.1 ∙ ap (λ (p : Progress). p.depth) c.progress.ensures in

@@ -1,5 +1,5 @@
 use Rattle.std.specs.Prelude.{IsSome}
-use Rattle.trac_c.specs.declared.devices.RoomySink.{RoomySink}
+use Rattle.trac_c.specs.declared.devices.OverflowSink.{OverflowSink}
 use Rattle.trac_c.proofs.Imports.{Option, Fate, ◌≡◌, ◌≤◌, not, None, Some, [], length, refl, sym, ap, subst, ◌∙◌, arith, ending, moment, stream_in, awaited, next_function, next_printed, is_short, stands}
 use Rattle.std.proofs.lemmas.Bool.{and_left, and_right}
 use Rattle.std.proofs.lemmas.Grind.{common_steps}
@@ -9,7 +9,7 @@ use Rattle.trac_c.specs.Turns.{written_to}
 use Rattle.trac_c.proofs.Again.{prints-none}
 use Rattle.trac_c.proofs.Alone.{is-going}
 use Rattle.trac_c.proofs.Waiting.{may-get-more}
-use Rattle.trac_c.proofs.Roomy.{same-buffer, within-after, within-ended, not-broken, room-left, none-behind, broken-more}
+use Rattle.trac_c.proofs.Overflow.{same-buffer, within-after, within-ended, not-broken, room-left, none-behind, broken-more}
 use Rattle.trac_c.proofs.turn.step_on.Goals as goal
 use Rattle.trac_c.proofs.turn.step_on.Goals.{else-not-ended-via-then-not-ended+else-waits, else-not-ended-via-else-not-ended}
 
@@ -85,4 +85,4 @@ returns-in-Some-step-clause-fits c = go c.args.machine.now.fate refl
     go (Some fate) over =
         let is = ap (λ (m : MachineState). m.fate) c.prints_past.ensures.same ∙ over in
         let stays = c.step.ensures.over (subst IsSome (sym is) refl) in
-        ap (λ (s : RoomySink). s.behind) stays.2 ∙ c.requires.sink_sound.1
+        ap (λ (s : OverflowSink). s.behind) stays.2 ∙ c.requires.sink_sound.1

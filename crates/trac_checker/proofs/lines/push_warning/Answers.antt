@@ -1,5 +1,5 @@
 use Rattle.std.proofs.Common.{◌≡◌, ◌++◌, codes}
-use Rattle.trac_views.specs.Told.{place_text}
+use Rattle.trac_views.specs.CallLines.{place_text}
 use Rattle.trac_checker.specs.Warned.{said_text, times_text, value_text}
 use Rattle.trac_warnings.specs.Watched.{said}
 use Rattle.trac_views.proofs.Texts.{after, on_ok}

@@ -8,6 +8,6 @@ pub loop-warning-preserved : goal.loop-warning-preserved
 loop-warning-preserved g c =
     let e = c.in_ok-add.ensures in
     let old = c.loop-warning.findings in
-    let more = adds _ (λ a b. refl) old c.add.new.self c.in-Some.warning e.repeated e.counted e.others e.told in
+    let more = adds _ (λ a b. refl) old c.add.new.self c.in-Some.warning e.repeated e.counted e.others e.reported in
     ap (with_all (map said c.next.new.self.rest.items)) more
     ∙ ap (λ items. with_all (map said items) (found_in old)) (sym c.in-Some.ensures.steps.0) ∙ c.loop-warning.invariant

@@ -10,7 +10,7 @@ loop-warning-preserved g c =
     let i = c.loop-warning.invariant in
     let old = c.loop-warning.findings in
     let left = c.take_warning.new.self.warnings in
-    let more = adds _ (λ a b. refl) old c.add.new.self c.in-Some.warning e.repeated e.counted e.others e.told in
+    let more = adds _ (λ a b. refl) old c.add.new.self c.in-Some.warning e.repeated e.counted e.others e.reported in
     record {
       stays = c.take_warning.ensures.stays ∙ ap (λ (w : Watch g.row.A.Denot). record w { warnings = left }) i.stays;
       found = taken c.loop-warning.watch.warnings.items left.items c.in-Some.warning (found_in old) (found_in c.add.new.self) _ c.in-Some.ensures.left more i.found;

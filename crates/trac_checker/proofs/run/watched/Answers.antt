@@ -1,5 +1,5 @@
 use Rattle.std.proofs.Common.{◌≡◌, ◌∙◌, ap, arith, length, refl}
-use Rattle.trac_core.specs.Machine.{MachineState, made, moment}
+use Rattle.trac_core.specs.Machine.{MachineState, fresh_machine, moment}
 use Rattle.trac_events.proofs.Failures.{last-failures}
 use Rattle.trac_checker.specs.FoundSoFar.{found_in}
 use Rattle.trac_checker.specs.WatchedRuns.{Watches}
@@ -9,7 +9,7 @@ use Rattle.trac_checker.proofs.run.watched.Goals as goal
 
 pub loop-findings-init : goal.loop-findings-init
 loop-findings-init g c =
-    let machine_is : c.over-machine.result ≡ made (length c.args.block.now) c.args.steps = c.over-machine.ensures in
+    let machine_is : c.over-machine.result ≡ fresh_machine (length c.args.block.now) c.args.steps = c.over-machine.ensures in
     record {
       not_over = ap (λ (m : MachineState). m.fate) machine_is;
       source_failures = refl;
@@ -17,8 +17,8 @@ loop-findings-init g c =
       same_room = ap (λ (m : MachineState). m.room) machine_is;
       told = λ told. told;
       watched = λ told.
-          watched-first c.args.input.now (length c.args.block.now) c.args.steps (g.I.Source.stream c.args.source.now) c.over-machine.result (bytes_of c.new-unkept.result.written.value) c.new-watch.result (found_in c.in_ok-findings.findings)
-          c.new-watch.ensures machine_is c.new-unkept.ensures c.in_ok-findings.ensures;
+          watched-first c.args.input.now (length c.args.block.now) c.args.steps (g.I.Source.stream c.args.source.now) c.over-machine.result (bytes_of c.new-null_sink.result.written.value) c.new-watch.result (found_in c.in_ok-findings.findings)
+          c.new-watch.ensures machine_is c.new-null_sink.ensures c.in_ok-findings.ensures;
     }
 
 pub returns-in-Some : goal.returns-in-Some
@@ -29,19 +29,19 @@ returns-in-Some g c =
     let next = c.step-fate.new.self in
     let failures = last-failures m.fate c.in-Some.fate i.not_over in
     let looked = c.in_ok-before.ensures in
-    let told = c.in_ok-tell.ensures in
+    let judged = c.in_ok-judge_step.ensures in
     let kept = c.in_ok-keep_warnings.ensures in
-    let watches : Watches c.args.input.now m next c.loop-findings.watch c.tell.new.self = record {
+    let watches : Watches c.args.input.now m next c.loop-findings.watch c.judge_step.new.self = record {
       before = c.in_ok-before.before;
       looked = c.look.new.self;
       seen = looked.seen;
       looks = looked.looks;
       places = looked.stays;
-      undone = told.undone;
-      kept = told.kept;
-      moves = told.moved;
-      reads = told.read;
-      tells = told.tells;
+      undone = judged.undone;
+      kept = judged.kept;
+      moves = judged.moved;
+      reads = judged.read;
+      tells = judged.tells;
     } in
     record {
       input_failed = omega (arith, h.input_failed, failures, i.source_failures);
@@ -49,9 +49,9 @@ returns-in-Some g c =
       peak = omega (arith, h.limits.peak, h.room, i.same_room, c.peak.ensures);
       watches = λ tells.
           watched-over c.args.input.now (length c.args.block.now) c.args.steps (g.I.Source.stream c.args.source.now)
-          (moment m (g.I.Source.stream c.loop-findings.source) (bytes_of c.loop-findings.unkept.written.value))
+          (moment m (g.I.Source.stream c.loop-findings.source) (bytes_of c.loop-findings.null_sink.written.value))
           (moment next (g.I.Source.stream c.step-fate.new.source) (bytes_of c.step-fate.new.sink.written.value))
-          c.loop-findings.watch c.tell.new.self c.keep_warnings.new.watch (found_in c.loop-findings.findings) (found_in c.keep_warnings.new.findings) (found_in c.add_names.new.findings) c.in-Some.fate
+          c.loop-findings.watch c.judge_step.new.self c.keep_warnings.new.watch (found_in c.loop-findings.findings) (found_in c.keep_warnings.new.findings) (found_in c.add_names.new.findings) c.in-Some.fate
           (record { fate = c.in-Some.fate; steps = c.steps.result; peak = c.peak.result })
           i.same_room i.same_allowance (i.watched tells) watches kept.stays kept.found c.in_ok-add_names.ensures
           (h.answers i.not_over (i.told tells) tt)
@@ -66,19 +66,19 @@ loop-findings-preserved g c =
     let next = c.step-fate.new.self in
     let source_failed = rw i.not_over at h.input_failed in
     let looked = c.in_ok-before.ensures in
-    let told = c.in_ok-tell.ensures in
+    let judged = c.in_ok-judge_step.ensures in
     let kept = c.in_ok-keep_warnings.ensures in
-    let watches : Watches c.args.input.now m next c.loop-findings.watch c.tell.new.self = record {
+    let watches : Watches c.args.input.now m next c.loop-findings.watch c.judge_step.new.self = record {
       before = c.in_ok-before.before;
       looked = c.look.new.self;
       seen = looked.seen;
       looks = looked.looks;
       places = looked.stays;
-      undone = told.undone;
-      kept = told.kept;
-      moves = told.moved;
-      reads = told.read;
-      tells = told.tells;
+      undone = judged.undone;
+      kept = judged.kept;
+      moves = judged.moved;
+      reads = judged.read;
+      tells = judged.tells;
     } in
     record {
       not_over = h.fate;
@@ -88,10 +88,10 @@ loop-findings-preserved g c =
       told = λ tells. h.told_source (i.told tells);
       watched = λ tells.
           let took = h.takes (i.told tells) in
-          watched-more c.args.input.now (made (length c.args.block.now) c.args.steps) (g.I.Source.stream c.args.source.now)
-          (moment m (g.I.Source.stream c.loop-findings.source) (bytes_of c.loop-findings.unkept.written.value))
+          watched-more c.args.input.now (fresh_machine (length c.args.block.now) c.args.steps) (g.I.Source.stream c.args.source.now)
+          (moment m (g.I.Source.stream c.loop-findings.source) (bytes_of c.loop-findings.null_sink.written.value))
           (moment next (g.I.Source.stream c.step-fate.new.source) (bytes_of c.step-fate.new.sink.written.value))
-          c.loop-findings.watch c.tell.new.self c.keep_warnings.new.watch (found_in c.loop-findings.findings) (found_in c.keep_warnings.new.findings)
+          c.loop-findings.watch c.judge_step.new.self c.keep_warnings.new.watch (found_in c.loop-findings.findings) (found_in c.keep_warnings.new.findings)
           i.same_room (i.watched tells) watches kept.stays kept.found took.0 took.1.consumed
           (h.answers i.not_over (i.told tells) tt);
     }

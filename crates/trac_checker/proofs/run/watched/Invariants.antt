@@ -1,5 +1,5 @@
 use Rattle.std.proofs.Common.{◌≡◌, ◌-◌, None, length}
-use Rattle.trac_core.specs.Machine.{made, moment}
+use Rattle.trac_core.specs.Machine.{fresh_machine, moment}
 use Rattle.trac_checker.specs.FoundSoFar.{found_in}
 use Rattle.trac_checker.specs.WrittenBytes.{bytes_of}
 use Rattle.trac_checker.proofs.Watching.{IsWatched}
@@ -16,8 +16,8 @@ invariant-loop-findings g l =
       told : g.I.Source.tells l.initial.source → g.I.Source.tells l.source;
       watched :
           g.I.Source.tells l.initial.source →
-          IsWatched l.input (made (length l.fn.block) l.steps) (g.I.Source.stream l.initial.source)
-          (moment l.machine (g.I.Source.stream l.source) (bytes_of l.unkept.written.value)) l.watch (found_in l.findings);
+          IsWatched l.input (fresh_machine (length l.fn.block) l.steps) (g.I.Source.stream l.initial.source)
+          (moment l.machine (g.I.Source.stream l.source) (bytes_of l.null_sink.written.value)) l.watch (found_in l.findings);
     }
 
 -- the steps that are left

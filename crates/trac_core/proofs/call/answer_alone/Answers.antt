@@ -23,5 +23,5 @@ returns-in-PrintString-clause-answers c = λ source written.
 pub returns-in_default-clause-answers : goal.returns-in_default-clause-answers
 returns-in_default-clause-answers c = λ source written.
     let n = c.requires.named in
-    c.made_alone.ensures.answers c.args.call.place source written
+    c.result_alone.ensures.answers c.args.call.place source written
     (record { call = record { sound = n.sound; innermost = n.innermost; names = sym n.names ∙ c.in-Some.is }; rest = n.rest (grind (arith, common_steps)) }) n.scanned

@@ -1,5 +1,5 @@
 use Rattle.trac_core.proofs.Imports.{◌+◌, take, arith, All-take, length-drop, text_of_cells, IsByte, IsOrdinary}
-use Rattle.trac_core.proofs.PlainEnds.{bytes-plain, plain-appended}
+use Rattle.trac_core.proofs.NoCommaEnds.{bytes-no_comma_from, no_comma_from-appended}
 use Rattle.trac_core.proofs.Scanning.{some-active}
 use Rattle.trac_core.proofs.StepsInRow.{characters-pass, All-after}
 use Rattle.trac_core.proofs.scan.add_long_run.Goals as goal
@@ -24,7 +24,7 @@ returns-clause-passes c =
     })
 
 pub returns-clause-plain : goal.returns-clause-plain
-returns-clause-plain c = λ place plain.
+returns-clause-plain c = λ place no_comma_from.
     let old = c.args.work.now in
     rw c.active_to_neutral.ensures.moved
-    (plain-appended old.neutral (take (1 + c.ordinary_characters-count.result) old.active) (bytes-plain _ (All-take IsByte _ old.active c.requires.sound.active)) place plain)
+    (no_comma_from-appended old.neutral (take (1 + c.ordinary_characters-count.result) old.active) (bytes-no_comma_from _ (All-take IsByte _ old.active c.requires.sound.active)) place no_comma_from)

@@ -1,6 +1,6 @@
-use Rattle.trac_core.proofs.Imports.{◌≡◌, ◌≤◌, ◌<◌, ◌+◌, ◌++◌, length, take, drop, map, sym, ap, ◌∙◌, subst, arith, range_with_len, NoComma, turned, IsPlainFrom, kind_of}
-use Rattle.trac_core.proofs.ArgumentRuns.{run-passes, run-some, plain-turned}
-use Rattle.trac_core.proofs.PlainEnds.{plain-appended}
+use Rattle.trac_core.proofs.Imports.{◌≡◌, ◌≤◌, ◌<◌, ◌+◌, ◌++◌, length, take, drop, map, sym, ap, ◌∙◌, subst, arith, range_with_len, NoComma, turned, HasNoCommaFrom, kind_of}
+use Rattle.trac_core.proofs.ArgumentRuns.{run-passes, run-some, no_comma_from-turned}
+use Rattle.trac_core.proofs.NoCommaEnds.{no_comma_from-appended}
 use Rattle.trac_core.proofs.Scanning.{some-active}
 use Rattle.trac_core.specs.declared.run_hints.RunHints.{RunHints}
 use Rattle.trac_core.proofs.scan.add_run_within.Goals as goal
@@ -29,8 +29,8 @@ returns-clause-plain c =
     let last = c.run_to_neutral-count.result.1 in
     let run = c.run_to_neutral-count.ensures in
     let more = turned (map kind_of (range_with_len 0 256)) (take n old.active) in
-    let plain : IsPlainFrom c.if-last-gt0.hints.plain_from (old.neutral ++ more) = elim c.if-last-gt0.branch [
-      | then-last-gt0 w ↦ plain-turned old.neutral more c.if-last-gt0.hints.plain_from last (ap (λ (h : RunHints). h.plain_from) w.hints-is ∙ ap (λ k. k + last) c.neutral_len-before.ensures.value) run.plain
-      | else-last-gt0 w ↦ (let none : last ≡ 0 = omega (arith, w.if-last-gt0.false) in subst (λ place. IsPlainFrom place (old.neutral ++ more)) (sym (ap (λ (h : RunHints). h.plain_from) w.hints-is)) (plain-appended old.neutral more (subst (λ k. NoComma (drop k more)) none run.plain) c.args.hints.now.plain_from c.requires.plain))
+    let no_comma_from : HasNoCommaFrom c.if-last-gt0.hints.no_comma_from (old.neutral ++ more) = elim c.if-last-gt0.branch [
+      | then-last-gt0 w ↦ no_comma_from-turned old.neutral more c.if-last-gt0.hints.no_comma_from last (ap (λ (h : RunHints). h.no_comma_from) w.hints-is ∙ ap (λ k. k + last) c.neutral_len-before.ensures.value) run.no_comma_from
+      | else-last-gt0 w ↦ (let none : last ≡ 0 = omega (arith, w.if-last-gt0.false) in subst (λ place. HasNoCommaFrom place (old.neutral ++ more)) (sym (ap (λ (h : RunHints). h.no_comma_from) w.hints-is)) (no_comma_from-appended old.neutral more (subst (λ k. NoComma (drop k more)) none run.no_comma_from) c.args.hints.now.no_comma_from c.requires.no_comma_from))
     ] in
-    subst (λ w. IsPlainFrom c.if-last-gt0.hints.plain_from w.neutral) (sym run.moved) plain
+    subst (λ w. HasNoCommaFrom c.if-last-gt0.hints.no_comma_from w.neutral) (sym run.moved) no_comma_from

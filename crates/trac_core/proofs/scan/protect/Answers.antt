@@ -1,6 +1,6 @@
 use Rattle.trac_core.proofs.Imports.{◌≡◌, ◌+◌, ◌++◌, take, drop, All, ◌-◌, Some, None, sym, ap, ◌∙◌, subst, All-take, All-drop, protected, IsByte, Contents}
 use Rattle.trac_functions.proofs.ArgumentLemmas.{bytes-seen}
-use Rattle.trac_core.proofs.PlainEnds.{bytes-plain, plain-appended}
+use Rattle.trac_core.proofs.NoCommaEnds.{bytes-no_comma_from, no_comma_from-appended}
 use Rattle.trac_core.proofs.Scanning.{scans-protected, scans-unmatched, text-after}
 use Rattle.trac_core.proofs.scan.protect.Goals as goal
 
@@ -27,11 +27,11 @@ returns-in-None-clause-scans c =
     rw c.clear_active.ensures.empty (scans-unmatched old c.requires.first (subst (λ t. protected t ≡ None) text c.in-None.ensures))
 
 pub returns-in-Some-clause-plain : goal.returns-in-Some-clause-plain
-returns-in-Some-clause-plain c = λ place plain.
+returns-in-Some-clause-plain c = λ place no_comma_from.
     let old = c.args.work.now in
     let text = take c.in-Some.len (drop 1 old.active) in
     let moved = ap (λ (w : Contents). w.neutral) c.drop_active-in-Some.ensures.rest
     ∙ ap (λ (w : Contents). w.neutral) c.active_to_neutral.ensures.moved
     ∙ ap (λ (w : Contents). w.neutral ++ take c.in-Some.len w.active) c.drop_active.ensures.rest in
     rw moved
-    (plain-appended old.neutral text (bytes-plain text (All-take IsByte c.in-Some.len (drop 1 old.active) (All-drop IsByte 1 old.active c.requires.sound.active))) place plain)
+    (no_comma_from-appended old.neutral text (bytes-no_comma_from text (All-take IsByte c.in-Some.len (drop 1 old.active) (All-drop IsByte 1 old.active c.requires.sound.active))) place no_comma_from)

@@ -11,11 +11,11 @@ returns-else-not-add-clause-index c =
     let name : text_of_cells c.store_part.result.now ≡ name_at forms k = shown-text _ _ (c.store_part.ensures ∙ c.heads_of-heads.ensures.name_cells) in
     let number : c.hash-first.result ≡ hash (name_at forms k) = c.hash-first.ensures.value ∙ ap hash name in
     let done = c.if-not-add.ensures.done in
-    let index = c.requires.state.index (omega (arith, c.spare_len.ensures.value, c.if-spare_len-eq0.false)) in
-    let place = subst (λ n. IsOpenFor s.spare n done.0) number done.1 in
-    let roomy : k < length s.spare / 4 = omega (arith, c.spare_len-2.ensures.value, c.if-form-spare_len.false) in
-    let all = index-next s.spare forms k done.0 c.args.form.start c.requires.some c.requires.state.place.start_is index roomy place in
-    λ _. subst (λ t. IsIndex t (take (k + 1) forms)) (sym (ap (λ (w : Lists). w.spare) done.2)) all
+    let index = c.requires.state.index (omega (arith, c.index_area_len.ensures.value, c.if-index_area_len-eq0.false)) in
+    let place = subst (λ n. IsOpenFor s.index_area n done.0) number done.1 in
+    let overflow : k < length s.index_area / 4 = omega (arith, c.index_area_len-2.ensures.value, c.if-form-index_area_len.false) in
+    let all = index-next s.index_area forms k done.0 c.args.form.start c.requires.some c.requires.state.place.start_is index overflow place in
+    λ _. subst (λ t. IsIndex t (take (k + 1) forms)) (sym (ap (λ (w : Lists). w.index_area) done.2)) all
 
 pub hash-first-requires : goal.hash-first-requires
 hash-first-requires c =

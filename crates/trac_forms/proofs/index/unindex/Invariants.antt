@@ -6,6 +6,6 @@ use Rattle.trac_forms.proofs.index.unindex.Given as goal
 abbrev pub invariant-loop-next : goal.invariant-loop-next
 invariant-loop-next l =
     let forms = forms_in l.fn.space.store in record {
-      same : l.space ≡ record l.fn.space { spare = l.space.spare };
-      index : IsIndexBut l.space.spare (length forms) (l.next - 1) (names_now forms l.fn.form.number (l.next - 1)) (starts_now forms l.fn.form.number (l.next - 1));
+      same : l.space ≡ record l.fn.space { index_area = l.space.index_area };
+      index : IsIndexBut l.space.index_area (length forms) (l.next - 1) (names_now forms l.fn.form.number (l.next - 1)) (starts_now forms l.fn.form.number (l.next - 1));
     }

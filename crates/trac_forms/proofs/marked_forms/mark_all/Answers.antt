@@ -57,4 +57,4 @@ returns-clause-marked c =
     let none = ap (part_texts s.neutral) (parts-none s.neutral c.loop-from.from c.args.names.to (omega (arith, c.loop-from-test.false))) in
     let forms : forms_in s.store ≡ with_marks (texts_between old.neutral c.args.names.from c.args.names.to) (forms_in old.store) =
     sym (ap (λ texts. with_marks texts (forms_in s.store)) none ∙ marks-none (forms_in s.store)) ∙ i.marks in
-    i.same ∙ ap (λ cells. record old { store = cells; spare = s.spare }) (sym i.marking.formed.kept.has.forms.whole ∙ ap flat_forms forms)
+    i.same ∙ ap (λ cells. record old { store = cells; index_area = s.index_area }) (sym i.marking.formed.kept.has.forms.whole ∙ ap flat_forms forms)

@@ -6,7 +6,7 @@ abbrev pub invariant-loop-from : goal.invariant-loop-from
 invariant-loop-from l = record {
   left : AreParted l.space.neutral l.from l.names.to;
   marking : AreMarking l.space l.count l.places.last l.places.first;
-  same : l.space ≡ record l.fn.space { store = l.space.store; spare = l.space.spare };
+  same : l.space ≡ record l.fn.space { store = l.space.store; index_area = l.space.index_area };
   marks : with_marks (texts_between l.space.neutral l.from l.names.to) (forms_in l.space.store) ≡ with_marks (texts_between l.fn.space.neutral l.fn.names.from l.fn.names.to) (forms_in l.fn.space.store);
 }
 

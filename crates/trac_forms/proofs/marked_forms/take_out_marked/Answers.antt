@@ -11,7 +11,7 @@ index_from-requires-clause-count_is c =
 
 pub returns-clause-index : goal.returns-clause-index
 returns-clause-index c =
-    subst (IsIndexed c.index_from.new.space.spare) (unmarked-read c.args.space.now _ _ c.unindex_from.ensures.same c.remove_marked-count.ensures.gone) c.index_from.ensures.index
+    subst (IsIndexed c.index_from.new.space.index_area) (unmarked-read c.args.space.now _ _ c.unindex_from.ensures.same c.remove_marked-count.ensures.gone) c.index_from.ensures.index
 
 pub index_from-requires-clause-state : goal.index_from-requires-clause-state
 index_from-requires-clause-state c =
@@ -19,9 +19,9 @@ index_from-requires-clause-state c =
     let k = c.args.first.number in
     let read = unmarked-read s _ _ c.unindex_from.ensures.same c.remove_marked-count.ensures.gone in
     let front : take k (forms_in c.remove_marked-count.new.space.store) ≡ take k (forms_in s.store) = ap (take k) read ∙ first-stay (forms_in s.store) k c.args.first.start c.requires.first in
-    let spare : c.remove_marked-count.new.space.spare ≡ c.unindex_from.new.space.spare = ap (λ (w : Lists). w.spare) c.remove_marked-count.ensures.gone in
+    let index_area : c.remove_marked-count.new.space.index_area ≡ c.unindex_from.new.space.index_area = ap (λ (w : Lists). w.index_area) c.remove_marked-count.ensures.gone in
     record {
       forms = unmarked-forms s _ _ c.unindex_from.ensures.same c.remove_marked-count.ensures.gone c.requires.forms.forms;
       place = subst (λ fs. IsPlace fs k c.args.first.start) (sym read) (place-stays (forms_in s.store) k c.args.first.start c.requires.first);
-      index = subst (λ l. IsIndexed l (take k (forms_in c.remove_marked-count.new.space.store))) (sym spare) (subst (IsIndexed c.unindex_from.new.space.spare) (sym front) c.unindex_from.ensures.index);
+      index = subst (λ l. IsIndexed l (take k (forms_in c.remove_marked-count.new.space.store))) (sym index_area) (subst (IsIndexed c.unindex_from.new.space.index_area) (sym front) c.unindex_from.ensures.index);
     }

@@ -1,5 +1,5 @@
 use Rattle.trac_space.proofs.Imports.{◌≡◌, ◌+◌, ◌-◌, ap, ◌∙◌, arith, copy_within}
-use Rattle.trac_space.proofs.Blocks.{copied-up, lifted-last}
+use Rattle.trac_space.proofs.Blocks.{copied-up, cleared-last}
 use Rattle.trac_space.proofs.copies.copy_higher_by_blocks.Goals as goal
 
 pub loop-left-preserved : goal.loop-left-preserved
@@ -16,4 +16,4 @@ loop-left-preserved c =
 
 pub returns-clause-after : goal.returns-clause-after
 returns-clause-after c =
-    lifted-last c.args.cells.now c.loop-left.cells c.copy_at_once-2.new.cells c.args.start c.args.to c.loop-left.left 8 c.args.n (omega arith) (omega arith) (omega arith) (omega arith) c.loop-left.invariant.copied c.copy_at_once-2.ensures.after
+    cleared-last c.args.cells.now c.loop-left.cells c.copy_at_once-2.new.cells c.args.start c.args.to c.loop-left.left 8 c.args.n (omega arith) (omega arith) (omega arith) (omega arith) c.loop-left.invariant.copied c.copy_at_once-2.ensures.after

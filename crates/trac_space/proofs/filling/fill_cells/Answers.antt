@@ -1,5 +1,5 @@
 use Rattle.trac_space.proofs.Imports.{ℕ, ◌≡◌, ◌+◌, ◌-◌, ◌≤◌, ◌<◌, ◌∙◌, length, drop, map, slice_range, slice_index_or, sym, ap, arith, drop-drop, get_or_default, length-between, Byte, Comma, is_byte_cell, filling, part_between, ordinal_of}
-use Rattle.trac_space.specs.Overlay.{under}
+use Rattle.trac_space.specs.Tags.{untagged}
 use Rattle.trac_space.proofs.Filled.{FilledFrom, task, along-start, along-behind, along-end, along-rest, commas-now, same-part, same-cell, block-run, cell-put, cell-full, filling-gap, last-bytes}
 use Rattle.trac_space.proofs.filling.fill_cells.Goals as goal
 use Rattle.trac_space.proofs.filling.fill_cells.Goals.{After-characters_before-run, After-part_numbered-start}
@@ -49,7 +49,7 @@ part_numbered-start-requires c =
     }
 
 -- the cells that are to be put are those that fill the gap before the run
-are : (c : After-part_numbered-start) → (k : After-characters_before-run) → FilledFrom (task c.args.cells.now c.args.from c.args.stop c.args.low c.args.to c.args.given.start c.args.given.len) c.copy_at_once.new.cells (c.loop-at.at - c.characters_before-run.result) (c.loop-at.to - c.characters_before-run.result) → map under (slice_range c.copy_at_once.new.cells c.part_numbered-start.result.0 (c.part_numbered-start.result.0 + c.part_numbered-start.result.1)) ≡ filling (map under (slice_range c.args.cells.now c.args.given.start (c.args.given.start + c.args.given.len))) (slice_index_or c.args.cells.now (c.loop-at.at - c.characters_before-run.result - 1) Comma)
+are : (c : After-part_numbered-start) → (k : After-characters_before-run) → FilledFrom (task c.args.cells.now c.args.from c.args.stop c.args.low c.args.to c.args.given.start c.args.given.len) c.copy_at_once.new.cells (c.loop-at.at - c.characters_before-run.result) (c.loop-at.to - c.characters_before-run.result) → map untagged (slice_range c.copy_at_once.new.cells c.part_numbered-start.result.0 (c.part_numbered-start.result.0 + c.part_numbered-start.result.1)) ≡ filling (map untagged (slice_range c.args.cells.now c.args.given.start (c.args.given.start + c.args.given.len))) (slice_index_or c.args.cells.now (c.loop-at.at - c.characters_before-run.result - 1) Comma)
 are c k i =
     let old = c.args.cells.now in
     let now = c.copy_at_once.new.cells in
@@ -65,9 +65,9 @@ are c k i =
     let stop = sym (ap is_byte_cell cell) ∙ c.characters_before-run.ensures.stop (omega (arith, c.if-run-eq-BLOCK.false, c.characters_before-run.ensures.few)) in
     let number = c.ordinal_in.ensures ∙ ap ordinal_of (get_or_default now at (Byte 0) Comma inside ∙ cell) in
     c.part_numbered-start.ensures.cells
-    ∙ ap (λ cells. part_between (map under cells) c.ordinal_in.result) part
-    ∙ ap (part_between (map under (slice_range c.args.cells.now c.args.given.start (c.args.given.start + c.args.given.len)))) number
-    ∙ sym (filling-gap (map under (slice_range c.args.cells.now c.args.given.start (c.args.given.start + c.args.given.len))) (slice_index_or old at Comma) stop)
+    ∙ ap (λ cells. part_between (map untagged cells) c.ordinal_in.result) part
+    ∙ ap (part_between (map untagged (slice_range c.args.cells.now c.args.given.start (c.args.given.start + c.args.given.len)))) number
+    ∙ sym (filling-gap (map untagged (slice_range c.args.cells.now c.args.given.start (c.args.given.start + c.args.given.len))) (slice_index_or old at Comma) stop)
 
 long : (c : After-part_numbered-start) → length c.copy_at_once.new.cells ≡ length c.args.cells.now → length (slice_range c.copy_at_once.new.cells c.part_numbered-start.result.0 (c.part_numbered-start.result.0 + c.part_numbered-start.result.1)) ≡ c.part_numbered-start.result.1
 long c size =
@@ -92,7 +92,7 @@ loop-at-preserved c =
     let at = goal.at.loop-at-preserved c in
     let k = at.After-characters_before-run in
     let i = some k (omega (arith, c.if-at-from.false)) in
-    cell-put i (c.loop-at.at - c.characters_before-run.result - 1) (omega (arith, c.if-at-from.false)) (omega (arith, c.if-at-from.false)) c.put_lifted.new.cells _ _ c.part_numbered-start.result.1 (long at.After-part_numbered-start i.size) (are at.After-part_numbered-start k i) (omega (arith, c.if-n-to.false)) (omega (arith, c.if-n-to.false)) c.put_lifted.ensures.len c.put_lifted.ensures.front c.put_lifted.ensures.put
+    cell-put i (c.loop-at.at - c.characters_before-run.result - 1) (omega (arith, c.if-at-from.false)) (omega (arith, c.if-at-from.false)) c.put_untagged.new.cells _ _ c.part_numbered-start.result.1 (long at.After-part_numbered-start i.size) (are at.After-part_numbered-start k i) (omega (arith, c.if-n-to.false)) (omega (arith, c.if-n-to.false)) c.put_untagged.ensures.len c.put_untagged.ensures.front c.put_untagged.ensures.put
 
 pub fill_each-requires-clause-given : goal.fill_each-requires-clause-given
 fill_each-requires-clause-given c =

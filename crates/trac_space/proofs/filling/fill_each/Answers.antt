@@ -1,5 +1,5 @@
 use Rattle.trac_space.proofs.Imports.{◌≡◌, ◌+◌, ◌-◌, ◌∙◌, ap, length, map, slice_range, slice_index_or, arith, Comma, length-between, filling}
-use Rattle.trac_space.specs.Overlay.{under}
+use Rattle.trac_space.specs.Tags.{untagged}
 use Rattle.trac_space.proofs.Filled.{along-start, along-behind, along-end, commas-now, same-part, same-cell, cell-put, cell-full}
 use Rattle.trac_space.proofs.filling.fill_each.Goals as goal
 use Rattle.trac_space.proofs.filling.fill_each.Goals.{After-filling_of-start}
@@ -18,15 +18,15 @@ filling_of-start-requires-clause-given c =
     }
 
 -- the cells that are to be put are those that fill the last one
-are : (c : After-filling_of-start) → map under (slice_range c.loop-at.cells c.filling_of-start.result.0 (c.filling_of-start.result.0 + c.filling_of-start.result.1)) ≡ filling (map under (slice_range c.args.cells.now c.args.given.start (c.args.given.start + c.args.given.len))) (slice_index_or c.args.cells.now (c.loop-at.at - 1) Comma)
+are : (c : After-filling_of-start) → map untagged (slice_range c.loop-at.cells c.filling_of-start.result.0 (c.filling_of-start.result.0 + c.filling_of-start.result.1)) ≡ filling (map untagged (slice_range c.args.cells.now c.args.given.start (c.args.given.start + c.args.given.len))) (slice_index_or c.args.cells.now (c.loop-at.at - 1) Comma)
 are c =
     let old = c.args.cells.now in
     let i = c.loop-at.invariant in
     let part = same-part i c.args.given.start (c.args.given.start + c.args.given.len) c.requires.behind in
     let cell = same-cell i (c.loop-at.at - 1) Comma (omega (arith, c.requires.before, c.requires.behind, i.within, c.loop-at-test.true)) in
     c.filling_of-start.ensures.cells
-    ∙ ap (λ cells. filling (map under cells) (slice_index_or c.loop-at.cells (c.loop-at.at - 1) Comma)) part
-    ∙ ap (filling (map under (slice_range old c.args.given.start (c.args.given.start + c.args.given.len)))) cell
+    ∙ ap (λ cells. filling (map untagged cells) (slice_index_or c.loop-at.cells (c.loop-at.at - 1) Comma)) part
+    ∙ ap (filling (map untagged (slice_range old c.args.given.start (c.args.given.start + c.args.given.len)))) cell
 
 long : (c : After-filling_of-start) → length (slice_range c.loop-at.cells c.filling_of-start.result.0 (c.filling_of-start.result.0 + c.filling_of-start.result.1)) ≡ c.filling_of-start.result.1
 long c =
@@ -38,7 +38,7 @@ long c =
 pub loop-at-preserved : goal.loop-at-preserved
 loop-at-preserved c =
     let k = (goal.at.loop-at-preserved c).After-filling_of-start in
-    cell-put c.loop-at.invariant (c.loop-at.at - 1) (omega (arith, c.loop-at-test.true)) (omega (arith, c.loop-at-test.true)) c.put_lifted.new.cells _ _ c.filling_of-start.result.1 (long k) (are k) (omega (arith, c.if-n-to.false)) (omega (arith, c.if-n-to.false)) c.put_lifted.ensures.len c.put_lifted.ensures.front c.put_lifted.ensures.put
+    cell-put c.loop-at.invariant (c.loop-at.at - 1) (omega (arith, c.loop-at-test.true)) (omega (arith, c.loop-at-test.true)) c.put_untagged.new.cells _ _ c.filling_of-start.result.1 (long k) (are k) (omega (arith, c.if-n-to.false)) (omega (arith, c.if-n-to.false)) c.put_untagged.ensures.len c.put_untagged.ensures.front c.put_untagged.ensures.put
 
 pub returns-then-n-to-clause-put : goal.returns-then-n-to-clause-put
 returns-then-n-to-clause-put c =

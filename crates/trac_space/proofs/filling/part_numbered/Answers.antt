@@ -1,5 +1,5 @@
 use Rattle.trac_space.proofs.Imports.{◌≡◌, ℕ, suc, ◌+◌, ◌-◌, ◌≤◌, ◌%◌, ◌∙◌, ap, arith, sym, map, slice_range, length-between, numbered_part, parts_at, part_between}
-use Rattle.trac_space.specs.Overlay.{under}
+use Rattle.trac_space.specs.Tags.{untagged}
 use Rattle.trac_space.proofs.Filled.{part-within, part-stands, others-in}
 use Rattle.trac_space.proofs.filling.part_numbered.Goals as goal
 use Rattle.trac_space.proofs.filling.part_numbered.Goals.{After-part_end-end, Then-place-given}
@@ -41,7 +41,7 @@ returns-clause-cells c =
     let k = (goal.at.returns-clause-cells c).After-part_end-end in
     let h = in_order k in
     let start = c.args.given.start in
-    let given = map under (slice_range c.args.cells.now start (start + c.args.given.len)) in
+    let given = map untagged (slice_range c.args.cells.now start (start + c.args.given.len)) in
     part-stands c.args.cells.now start c.args.given.len c.part_begin-from.result c.part_end-end.result h.0 h.1 c.requires.inside
     ∙ ap (λ a. slice_range given a c.part_end-end.result) c.part_begin-from.ensures
     ∙ ap (λ b. slice_range given (numbered_part (parts_at 0 0 given) (suc (place_of c.args.number))).0 b) c.part_end-end.ensures

@@ -1,5 +1,5 @@
 use Rattle.trac_store.proofs.Imports.{◌<◌, length}
-use Rattle.trac_store.specs.Borders.{laid_text}
+use Rattle.trac_store.specs.Borders.{tagged_text}
 use Rattle.trac_store.proofs.TextBorders.{Searched}
 use Rattle.trac_store.proofs.borders.first_place.Given as goal
 
@@ -7,5 +7,5 @@ use Rattle.trac_store.proofs.borders.first_place.Given as goal
 abbrev pub invariant-loop-i : goal.invariant-loop-i
 invariant-loop-i l = record {
   few : l.before < length l.text;
-  done : Searched (laid_text l.text) l.cells l.from l.i l.before;
+  done : Searched (tagged_text l.text) l.cells l.from l.i l.before;
 }

@@ -1,14 +1,14 @@
-use Rattle.trac_store.proofs.Imports.{◌≡◌, ℕ, ◌+◌, ◌-◌, ◌≤◌, List, ◌++◌, length, take, drop, set, slice_range, refl, sym, ap, subst, ◌∙◌, arith, length-set, length-append, length-take-le, length-map, length-between, drop-set-lt, Cell, Gap, Lists, character_of, under, laid_text, segment_cells, text_cells_at, IsFirst, NonePasses}
+use Rattle.trac_store.proofs.Imports.{◌≡◌, ℕ, ◌+◌, ◌-◌, ◌≤◌, List, ◌++◌, length, take, drop, set, slice_range, refl, sym, ap, subst, ◌∙◌, arith, length-set, length-append, length-take-le, length-map, length-between, drop-set-lt, Cell, Gap, Lists, character_of, untagged, tagged_text, segment_cells, text_cells_at, IsFirst, NonePasses}
 use Rattle.trac_store.proofs.Gaps.{moved-len, moved-rest, written-gap, written-end}
 use Rattle.trac_store.proofs.gap_making.make_gaps.Goals as goal
 use Rattle.trac_store.proofs.gap_making.make_gaps.Goals.{After-next_place}
 
 -- the text, which stays
 abbrev text : After-next_place → List ℕ
-text c = laid_text (slice_range c.args.space.now.neutral c.args.text.from c.args.text.to)
+text c = tagged_text (slice_range c.args.space.now.neutral c.args.text.from c.args.text.to)
 
-same_text : (c : After-next_place) → laid_text (slice_range c.loop-place.space.neutral c.args.text.from c.args.text.to) ≡ text c
-same_text c = ap (λ (l : Lists). laid_text (slice_range l.neutral c.args.text.from c.args.text.to)) c.loop-place.invariant.others
+same_text : (c : After-next_place) → tagged_text (slice_range c.loop-place.space.neutral c.args.text.from c.args.text.to) ≡ text c
+same_text c = ap (λ (l : Lists). tagged_text (slice_range l.neutral c.args.text.from c.args.text.to)) c.loop-place.invariant.others
 
 -- the cells that are still to be read are as they were
 same_cells : (c : After-next_place) → slice_range c.loop-place.space.store c.loop-place.read c.args.body.to ≡ slice_range c.args.space.now.store c.loop-place.read c.args.body.to
@@ -17,7 +17,7 @@ same_cells c = ap (take (c.args.body.to - c.loop-place.read)) c.loop-place.invar
 long : (c : After-next_place) → length (text c) ≡ c.args.text.to - c.args.text.from
 long c =
     let part = slice_range c.args.space.now.neutral c.args.text.from c.args.text.to in
-    length-map part (λ cell. character_of (under cell)) ∙ length-between c.args.space.now.neutral c.args.text.from c.args.text.to c.requires.text.within
+    length-map part (λ cell. character_of (untagged cell)) ∙ length-between c.args.space.now.neutral c.args.text.from c.args.text.to c.requires.text.within
 
 -- a write to the store leaves the others
 keep_others : (s l n : Lists) (store : List Cell) → l ≡ record s { store = l.store } → n ≡ record l { store = store } → n ≡ record s { store = n.store }
@@ -60,7 +60,7 @@ loop-place-preserved c =
     }
 
 -- no occurrence is left
-none : (c : After-next_place) → NonePasses (text_cells_at (laid_text (slice_range c.loop-place.space.neutral c.args.text.from c.args.text.to)) (slice_range c.loop-place.space.store c.loop-place.read c.args.body.to)) 0 (length (slice_range c.loop-place.space.store c.loop-place.read c.args.body.to)) → NonePasses (text_cells_at (text c) (slice_range c.args.space.now.store c.loop-place.read c.args.body.to)) 0 (length (slice_range c.args.space.now.store c.loop-place.read c.args.body.to))
+none : (c : After-next_place) → NonePasses (text_cells_at (tagged_text (slice_range c.loop-place.space.neutral c.args.text.from c.args.text.to)) (slice_range c.loop-place.space.store c.loop-place.read c.args.body.to)) 0 (length (slice_range c.loop-place.space.store c.loop-place.read c.args.body.to)) → NonePasses (text_cells_at (text c) (slice_range c.args.space.now.store c.loop-place.read c.args.body.to)) 0 (length (slice_range c.args.space.now.store c.loop-place.read c.args.body.to))
 none c passes =
     subst (λ cells. NonePasses (text_cells_at (text c) cells) 0 (length cells)) (same_cells c) (subst (λ t. NonePasses (text_cells_at t (slice_range c.loop-place.space.store c.loop-place.read c.args.body.to)) 0 (length (slice_range c.loop-place.space.store c.loop-place.read c.args.body.to))) (same_text c) passes)
 

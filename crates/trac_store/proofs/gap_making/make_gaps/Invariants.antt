@@ -1,4 +1,4 @@
-use Rattle.trac_store.proofs.Imports.{◌≡◌, ◌-◌, ◌≤◌, ◌++◌, length, take, drop, slice_range, laid_text, segment_cells}
+use Rattle.trac_store.proofs.Imports.{◌≡◌, ◌-◌, ◌≤◌, ◌++◌, length, take, drop, slice_range, tagged_text, segment_cells}
 use Rattle.trac_store.proofs.gap_making.make_gaps.Given as goal
 
 -- the cells before `read` are read, and their gaps stand
@@ -10,8 +10,8 @@ invariant-loop-place l = record {
   order : l.write ≤ l.read;
   upper : l.read ≤ l.to;
   rest : drop l.read l.space.store ≡ drop l.read l.initial.space.store;
-  written : take l.write l.space.store ++ segment_cells (laid_text (slice_range l.initial.space.neutral l.text.from l.text.to)) l.ordinal 0 (slice_range l.initial.space.store l.read l.to)
-      ≡ take l.fn.body.from l.initial.space.store ++ segment_cells (laid_text (slice_range l.initial.space.neutral l.text.from l.text.to)) l.ordinal 0 (slice_range l.initial.space.store l.fn.body.from l.to);
+  written : take l.write l.space.store ++ segment_cells (tagged_text (slice_range l.initial.space.neutral l.text.from l.text.to)) l.ordinal 0 (slice_range l.initial.space.store l.read l.to)
+      ≡ take l.fn.body.from l.initial.space.store ++ segment_cells (tagged_text (slice_range l.initial.space.neutral l.text.from l.text.to)) l.ordinal 0 (slice_range l.initial.space.store l.fn.body.from l.to);
 }
 
 abbrev pub decreases-loop-place : goal.decreases-loop-place

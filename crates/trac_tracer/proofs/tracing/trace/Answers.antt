@@ -1,11 +1,11 @@
 use Rattle.std.proofs.Common.{◌≡◌, ◌∙◌, ap, arith, length, max, refl, subst, Some, None}
 use Rattle.std.proofs.lemmas.List.{length-replicate}
 use Rattle.std.specs.Io.KnownBytes.{Appends}
-use Rattle.trac_core.specs.Machine.{MachineState, made}
+use Rattle.trac_core.specs.Machine.{MachineState, fresh_machine}
 use Rattle.trac_events.specs.Calls.{depth_in}
 use Rattle.trac_views.specs.Lines.{folded_text, head_text}
 use Rattle.trac_tracer.specs.Last.{with_step}
-use Rattle.trac_tracer.specs.ShownCalls.{TellsCall}
+use Rattle.trac_tracer.specs.ShownCalls.{AddsCall}
 use Rattle.trac_events.proofs.Failures.{last-failures}
 use Rattle.trac_tracer.proofs.StepByStep.{are-lines, shown-first, shown-on, shown-over}
 use Rattle.trac_tracer.proofs.tracing.trace.Goals as goal
@@ -15,7 +15,7 @@ loop-last-init g c =
     let asked = c.args.options.now in
     let shown = c.in_ok-shown.ensures in
     let cells : length c.deref_mut.result.now ≡ asked.cells = ap length c.deref_mut.ensures.value ∙ ap length c.in_ok-block.ensures ∙ length-replicate asked.cells _ in
-    let machine_is : c.over-machine.result ≡ made asked.cells asked.steps = c.over-machine.ensures ∙ ap (λ n. made n asked.steps) cells in
+    let machine_is : c.over-machine.result ≡ fresh_machine asked.cells asked.steps = c.over-machine.ensures ∙ ap (λ n. fresh_machine n asked.steps) cells in
     record {
       not_over = ap (λ (m : MachineState). m.fate) machine_is;
       source_failures = refl;
@@ -45,19 +45,19 @@ returns-in-Some g c =
       shows = λ told.
           let stream = g.I.Source.stream c.loop-last.source in
           let printed = c.step-fate.new.sink.bytes.items in
-          let lines = c.tell.new.self.lines.items in
+          let lines = c.add_lines.new.self.lines.items in
           let after = c.take_peak-need.new.self in
-          let line_of = are-lines views c.loop-last.shown.views c.look.new.self.views m after c.in_ok-before.before c.loop-last.shown.depth c.tell.new.self.depth (Some c.in-Some.fate) c.take_peak-need.result c.look.new.self.arguments.items c.look.new.self.named c.look.new.self.deleted.items c.as_bytes.result.now printed c.look.new.self.lines.items lines
+          let line_of = are-lines views c.loop-last.shown.views c.look.new.self.views m after c.in_ok-before.before c.loop-last.shown.depth c.add_lines.new.self.depth (Some c.in-Some.fate) c.take_peak-need.result c.look.new.self.arguments.items c.look.new.self.named c.look.new.self.deleted.items c.as_bytes.result.now printed c.look.new.self.lines.items lines
           i.views looked c.as_bytes.ensures c.in_ok-before.ensures.cleared c.in_ok-before.ensures.seen
-          (c.in_ok-tell.ensures.depth ∙ ap (depth_in c.in_ok-before.before after) c.in_ok-before.ensures.depth) c.in_ok-tell.ensures.hidden c.in_ok-tell.ensures.steps c.in_ok-before.ensures.kept (λ told others. subst (λ a. TellsCall c.look.new.self.views c.in_ok-before.before a c.tell.new.self.depth c.look.new.self.arguments.items c.look.new.self.named c.look.new.self.deleted.items c.as_bytes.result.now after c.look.new.self.lines.items lines) c.in-Some.is (c.in_ok-tell.ensures.calls told others)) in
-          shown-over views c.tell.new.self.views asked.cells asked.steps (g.I.Source.stream c.args.source.now) _ _ _ c.loop-last.shown.peak c.tell.new.self.peak c.take_peak-need.result c.steps.result c.first-first.result c.in-Some.fate
-          m c.step-fate.new.self after c.loop-last.shown.depth c.tell.new.self.depth stream (g.I.Source.stream c.step-fate.new.source) c.loop-last.last c.add.new.self c.loop-last.printed.bytes.items printed lines c.tell_end.new.self.lines.items
+          (c.in_ok-add_lines.ensures.depth ∙ ap (depth_in c.in_ok-before.before after) c.in_ok-before.ensures.depth) c.in_ok-add_lines.ensures.hidden c.in_ok-add_lines.ensures.steps c.in_ok-before.ensures.kept (λ told others. subst (λ a. AddsCall c.look.new.self.views c.in_ok-before.before a c.add_lines.new.self.depth c.look.new.self.arguments.items c.look.new.self.named c.look.new.self.deleted.items c.as_bytes.result.now after c.look.new.self.lines.items lines) c.in-Some.is (c.in_ok-add_lines.ensures.calls told others)) in
+          shown-over views c.add_lines.new.self.views asked.cells asked.steps (g.I.Source.stream c.args.source.now) _ _ _ c.loop-last.shown.peak c.add_lines.new.self.peak c.take_peak-need.result c.steps.result c.first-first.result c.in-Some.fate
+          m c.step-fate.new.self after c.loop-last.shown.depth c.add_lines.new.self.depth stream (g.I.Source.stream c.step-fate.new.source) c.loop-last.last c.add.new.self c.loop-last.printed.bytes.items printed lines c.add_end.new.self.lines.items
           i.room i.allowance i.no_peak i.empty (h.answers i.not_over (i.told told) tt) (i.shows told) line_of
           c.take_peak-need.ensures.peak c.take_peak-need.ensures.after
-          (c.in_ok-tell.ensures.peak ∙ ap (λ p. max p c.take_peak-need.result) c.in_ok-before.ensures.peak)
+          (c.in_ok-add_lines.ensures.peak ∙ ap (λ p. max p c.take_peak-need.result) c.in_ok-before.ensures.peak)
           c.steps.ensures
           (c.in_ok-add.ensures.ok ∙ ap (λ l. with_step c.steps.result l c.loop-last.last) c.lines-in-loop-last.ensures)
-          (c.in_ok-tell.ensures.views ∙ looked) c.in_ok-tell_end.ensures c.first-first.ensures
+          (c.in_ok-add_lines.ensures.views ∙ looked) c.in_ok-add_end.ensures c.first-first.ensures
           (subst (λ t. Appends (g.W.Write.contents c.loop-last.output) (g.W.Write.contents c.write_folded-in-Some.new.output) (folded_text views.columns 0 t)) c.lines-in-Some.ensures c.in_ok-write_folded-2.ensures);
     }
 
@@ -81,21 +81,21 @@ loop-last-preserved g c =
       no_peak = ap (λ (m : MachineState). m.peak) after_is;
       room = ap (λ (m : MachineState). m.room) after_is ∙ h.room ∙ i.room;
       allowance = ap (λ (m : MachineState). m.allowance) after_is ∙ h.allowance ∙ i.allowance;
-      views = c.in_ok-tell.ensures.views ∙ looked;
+      views = c.in_ok-add_lines.ensures.views ∙ looked;
       told = λ told. h.told_source (i.told told);
       shows = λ told.
           let stream = g.I.Source.stream c.loop-last.source in
           let printed = c.step-fate.new.sink.bytes.items in
-          let lines = c.tell.new.self.lines.items in
+          let lines = c.add_lines.new.self.lines.items in
           let took = h.takes (i.told told) in
-          let line_of = are-lines views c.loop-last.shown.views c.look.new.self.views m after c.in_ok-before.before c.loop-last.shown.depth c.tell.new.self.depth None c.take_peak-need.result c.look.new.self.arguments.items c.look.new.self.named c.look.new.self.deleted.items c.as_bytes.result.now printed c.look.new.self.lines.items lines
+          let line_of = are-lines views c.loop-last.shown.views c.look.new.self.views m after c.in_ok-before.before c.loop-last.shown.depth c.add_lines.new.self.depth None c.take_peak-need.result c.look.new.self.arguments.items c.look.new.self.named c.look.new.self.deleted.items c.as_bytes.result.now printed c.look.new.self.lines.items lines
           i.views looked c.as_bytes.ensures c.in_ok-before.ensures.cleared c.in_ok-before.ensures.seen
-          (c.in_ok-tell.ensures.depth ∙ ap (depth_in c.in_ok-before.before after) c.in_ok-before.ensures.depth) c.in_ok-tell.ensures.hidden c.in_ok-tell.ensures.steps c.in_ok-before.ensures.kept (λ told others. subst (λ a. TellsCall c.look.new.self.views c.in_ok-before.before a c.tell.new.self.depth c.look.new.self.arguments.items c.look.new.self.named c.look.new.self.deleted.items c.as_bytes.result.now after c.look.new.self.lines.items lines) c.in_default.is (c.in_ok-tell.ensures.calls told others)) in
-          shown-on views (made asked.cells asked.steps) (g.I.Source.stream c.args.source.now) (folded_text views.columns 0 (head_text views.calls views.forms)) _ _ _ c.loop-last.shown.peak c.tell.new.self.peak c.take_peak-need.result c.steps.result
-          m c.step-fate.new.self after c.loop-last.shown.depth c.tell.new.self.depth stream (g.I.Source.stream c.step-fate.new.source) c.loop-last.last c.add.new.self c.loop-last.printed.bytes.items printed lines took.0
+          (c.in_ok-add_lines.ensures.depth ∙ ap (depth_in c.in_ok-before.before after) c.in_ok-before.ensures.depth) c.in_ok-add_lines.ensures.hidden c.in_ok-add_lines.ensures.steps c.in_ok-before.ensures.kept (λ told others. subst (λ a. AddsCall c.look.new.self.views c.in_ok-before.before a c.add_lines.new.self.depth c.look.new.self.arguments.items c.look.new.self.named c.look.new.self.deleted.items c.as_bytes.result.now after c.look.new.self.lines.items lines) c.in_default.is (c.in_ok-add_lines.ensures.calls told others)) in
+          shown-on views (fresh_machine asked.cells asked.steps) (g.I.Source.stream c.args.source.now) (folded_text views.columns 0 (head_text views.calls views.forms)) _ _ _ c.loop-last.shown.peak c.add_lines.new.self.peak c.take_peak-need.result c.steps.result
+          m c.step-fate.new.self after c.loop-last.shown.depth c.add_lines.new.self.depth stream (g.I.Source.stream c.step-fate.new.source) c.loop-last.last c.add.new.self c.loop-last.printed.bytes.items printed lines took.0
           i.room i.no_peak i.empty took.1.consumed (h.answers i.not_over (i.told told) tt) (i.shows told) line_of
           c.take_peak-need.ensures.peak after_is
-          (c.in_ok-tell.ensures.peak ∙ ap (λ p. max p c.take_peak-need.result) c.in_ok-before.ensures.peak)
+          (c.in_ok-add_lines.ensures.peak ∙ ap (λ p. max p c.take_peak-need.result) c.in_ok-before.ensures.peak)
           c.steps.ensures
           (c.in_ok-add.ensures.ok ∙ ap (λ l. with_step c.steps.result l c.loop-last.last) c.lines-in-loop-last.ensures)
           (subst (λ t. Appends (g.W.Write.contents c.loop-last.output) (g.W.Write.contents c.write_folded-in-loop-last.new.output) (folded_text views.columns 0 t)) c.lines-in-loop-last-2.ensures c.in_ok-write_folded-3.ensures);

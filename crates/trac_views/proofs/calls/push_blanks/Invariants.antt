@@ -1,5 +1,5 @@
 use Rattle.std.proofs.Common.{◌≡◌, ◌++◌, ◌-◌}
-use Rattle.trac_views.specs.Told.{blanks_text}
+use Rattle.trac_views.specs.CallLines.{blanks_text}
 use Rattle.trac_views.proofs.calls.push_blanks.Given as goal
 
 -- the blanks so far and those that are left are the whole

@@ -1,6 +1,6 @@
 use Rattle.std.proofs.Common.{◌≡◌, drop}
 use Rattle.trac_space.specs.Texts.{text_of_cells}
-use Rattle.trac_views.specs.Told.{is_argument}
+use Rattle.trac_views.specs.CallLines.{is_argument}
 use Rattle.trac_views.proofs.deleted.is_argument.Given as goal
 
 -- the cells that are left decide

@@ -1,6 +1,6 @@
 use Rattle.std.proofs.Common.{◌≡◌, ◌++◌}
 use Rattle.std.specs.List.{flat_map}
-use Rattle.trac_views.specs.Told.{form_deleted}
+use Rattle.trac_views.specs.CallLines.{form_deleted}
 use Rattle.trac_views.proofs.deleted.push_all.Given as goal
 
 -- the text so far and that of the forms that are left are the whole

@@ -1,5 +1,5 @@
 use Rattle.std.proofs.Common.{◌≡◌, ◌++◌, drop}
-use Rattle.trac_views.specs.Told.{named_deleted}
+use Rattle.trac_views.specs.CallLines.{named_deleted}
 use Rattle.trac_views.proofs.deleted.push_named.Given as goal
 
 -- the text so far and that of the cells that are left are the whole

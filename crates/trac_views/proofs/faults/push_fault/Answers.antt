@@ -1,7 +1,7 @@
 use Rattle.std.proofs.Common.{◌≡◌, ◌∙◌, ◌++◌, ℕ, List, ap}
 use Rattle.trac_events.specs.Places.{one_more}
 use Rattle.trac_views.specs.Faults.{parts_line}
-use Rattle.trac_views.specs.Told.{where_text}
+use Rattle.trac_views.specs.CallLines.{where_text}
 use Rattle.trac_views.proofs.Texts.{on_ok}
 use Rattle.trac_views.proofs.faults.push_fault.Goals as goal
 

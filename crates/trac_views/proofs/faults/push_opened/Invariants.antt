@@ -1,5 +1,5 @@
 use Rattle.std.proofs.Common.{◌≡◌, ◌++◌, drop}
-use Rattle.trac_views.specs.Told.{opened_text}
+use Rattle.trac_views.specs.CallLines.{opened_text}
 use Rattle.trac_views.proofs.faults.push_opened.Given as goal
 
 -- the lines so far and those of the cells that are left are the whole

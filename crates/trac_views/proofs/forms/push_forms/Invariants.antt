@@ -1,6 +1,6 @@
 use Rattle.std.proofs.Common.{◌≡◌, ◌++◌}
 use Rattle.std.specs.List.{flat_map}
-use Rattle.trac_views.specs.Told.{form_line}
+use Rattle.trac_views.specs.CallLines.{form_line}
 use Rattle.trac_views.proofs.forms.push_forms.Given as goal
 
 -- the lines so far and those of the forms that are left are the whole

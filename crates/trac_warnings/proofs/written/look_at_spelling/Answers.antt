@@ -7,6 +7,6 @@ loop-place-preserved g c =
     let i = c.loop-place.invariant in
     record {
       kept = kept_more _ _ _ i.kept c.look_at_place.ensures.kept;
-      said = next_spelled _ _ _ c.loop-place.is_told c.loop-place.is_behind_sign _ c.loop-place.place c.args.input.now
-          c.loop-place-test.true c.in_ok-is_told.ensures.said c.in_ok-is_told.ensures.told i.said;
+      said = next_spelled _ _ _ c.loop-place.is_reported c.loop-place.is_behind_sign _ c.loop-place.place c.args.input.now
+          c.loop-place-test.true c.in_ok-is_reported.ensures.said c.in_ok-is_reported.ensures.reported i.said;
     }

@@ -8,6 +8,6 @@ abbrev pub invariant-loop-place : goal.invariant-loop-place
 invariant-loop-place g l =
     record {
       kept : Kept l.initial.warnings.items l.warnings.items;
-      said : map said l.warnings.items ++ spelled l.is_told l.is_behind_sign l.place (drop l.place l.input)
+      said : map said l.warnings.items ++ spelled l.is_reported l.is_behind_sign l.place (drop l.place l.input)
           ≡ map said l.initial.warnings.items ++ spelled false false 0 l.input;
     }

@@ -43,12 +43,12 @@ returns-clause-answered c =
     let i = c.self.inside in
     let closed = c.in-Some.ensures.call in
     let m : MachineState = record { memory = memory_of i.meta i.work; room = i.work.room; allowance = i.allowance; steps = i.steps; peak = i.peak; fate = i.fate; stops = i.stops } in
-    rw (← c.self.view_is, c.count.ensures.answer, c.count.ensures.after, c.end_answered-attempt.ensures.keeps.room) (
+    rw (← c.self.view_is, c.count.ensures.answer, c.count.ensures.after, c.end_answered-outcome.ensures.keeps.room) (
       record {
         going = none-known i.fate (sym c.is_some.ensures ∙ c.if-is_some.false);
         unknown = unknown-innermost i.work c.in-Some.place i.meta closed.0 closed.1.0 ∙ ap is_none closed.1.1;
       },
-      λ source written. tells-answered c.args.how c.args.value.now m i.work c.end_answered-attempt.new.work c.in-Some.place i.meta c.end_answered-attempt.result.need c.end_answered-attempt.result.fate source written refl refl (omega (arith, c.self.invariant.0, c.if-self.false)) c.in-Some.ensures.sound closed.0 closed.1.0 c.end_answered-attempt.ensures.fits c.end_answered-attempt.ensures.ended,
+      λ source written. tells-answered c.args.how c.args.value.now m i.work c.end_answered-outcome.new.work c.in-Some.place i.meta c.end_answered-outcome.result.need c.end_answered-outcome.result.fate source written refl refl (omega (arith, c.self.invariant.0, c.if-self.false)) c.in-Some.ensures.sound closed.0 closed.1.0 c.end_answered-outcome.ensures.fits c.end_answered-outcome.ensures.ended,
     )
 
 pub returns-clause-null : goal.returns-clause-null

@@ -41,6 +41,6 @@ returns-clause-done c =
     rw (← c.self.view_is, c.count.ensures.after, skipped.0, c.skip_printing.ensures.keeps.room) (
       (λ none. skipped.1.1.0 i.meta (ending []) (prints.1 (ending []) ∙ none)),
       λ source written.
-          subst (λ text. GoesOn (moment m source written) (moment (counted m (memory_of i.meta c.skip_printing.new.work) c.in-Some.attempt.need None) source (written ++ text)))
+          subst (λ text. GoesOn (moment m source written) (moment (counted m (memory_of i.meta c.skip_printing.new.work) c.in-Some.outcome.need None) source (written ++ text)))
           (prints.1 (ending source.bytes)) (skipped.1.1.1 i.meta source written m refl refl allowed.1),
     )

@@ -34,11 +34,11 @@ returns-clause-answers g c = λ not_over told_source told_sink.
     let m : MachineState = record { memory = memory_of i.meta i.work; room = i.work.room; allowance = i.allowance; steps = i.steps; peak = i.peak; fate = i.fate; stops = i.stops } in
     let allowed : i.steps < i.allowance = omega (arith, c.self.invariant.0, c.if-self.false) in
     let same = c.in-Some.ensures.comes.0 in
-    rw (← c.self.view_is, c.count-2.ensures.answer, c.count-2.ensures.after, c.perform_pending-attempt.ensures.keeps.room, c.scan_once.ensures.keeps.room)
-    (c.perform_pending-attempt.ensures.tried told_source told_sink m (sym c.scan_once.ensures.keeps.room) (ap (memory_of i.meta) (sym same)) allowed)
+    rw (← c.self.view_is, c.count-2.ensures.answer, c.count-2.ensures.after, c.perform_next-outcome.ensures.keeps.room, c.scan_once.ensures.keeps.room)
+    (c.perform_next-outcome.ensures.tried told_source told_sink m (sym c.scan_once.ensures.keeps.room) (ap (memory_of i.meta) (sym same)) allowed)
 
 pub returns-clause-takes : goal.returns-clause-takes
 returns-clause-takes g c = λ told.
-    let t = c.perform_pending-attempt.ensures.takes told in
+    let t = c.perform_next-outcome.ensures.takes told in
     let few = subst (λ (w : Contents). length t.0 + used w ≤ w.room + 2) c.in-Some.ensures.comes.0 t.1.few in
     rw (← c.self.view_is) (t.0, record { consumed = t.1.consumed; few = omega (arith, size-used c.self.inside.meta c.self.inside.work, few) })

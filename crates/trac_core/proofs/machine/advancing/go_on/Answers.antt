@@ -20,7 +20,7 @@ loop-left-preserved-in-Ok g c =
       wanted = i.wanted;
       sound = h.keeps.sound;
       room = h.keeps.room ∙ i.room;
-      plain = h.plain;
+      no_comma_from = h.no_comma_from;
       peak = rw (c.max-peak.ensures, h.keeps.room) (need-fits c.loop-left.need _ c.loop-left.peak old.room fits i.peak i.need);
       need = need-counted c.in-Ok.done c.loop-left.need c.loop-left.peak c.max-peak.result old new some.passes i.need c.max-peak.ensures;
       ready = i.ready;
@@ -33,10 +33,10 @@ pub loop-left-preserved-then-may_begin_idling : goal.loop-left-preserved-then-ma
 loop-left-preserved-then-may_begin_idling g c =
     let i = c.loop-left.invariant in
     let same = c.in-Err-Idling.ensures.comes.0 in
-    let none = subst (λ pending. AsksFor pending c.loop-left.work) c.in-Err-Idling.field-0-is c.in-Err-Idling.ensures.comes.1 in
+    let none = subst (λ action. AsksFor action c.loop-left.work) c.in-Err-Idling.field-0-is c.in-Err-Idling.ensures.comes.1 in
     let may = c.if-may_begin_idling.ensures.0 refl in
     let h = c.begin_idling.ensures in
-    let len = ap (λ (h : RunHints). h.plain_from) c.new-hints-in-Err-Idling.ensures ∙ c.neutral_len.ensures.value in
+    let len = ap (λ (h : RunHints). h.no_comma_from) c.new-hints-in-Err-Idling.ensures ∙ c.neutral_len.ensures.value in
     let peak_is = c.max-peak-in-Err-Idling.ensures in
     let old = c.loop-left.work in
     let new = c.begin_idling.new.work in
@@ -49,7 +49,7 @@ loop-left-preserved-then-may_begin_idling g c =
       wanted = i.wanted;
       sound = h.keeps.sound;
       room = h.keeps.room ∙ c.in-Err-Idling.ensures.keeps.room ∙ i.room;
-      plain = λ k d within. absurd (omega (arith, len, length-drop c.new-hints-in-Err-Idling.result.plain_from new.neutral));
+      no_comma_from = λ k d within. absurd (omega (arith, len, length-drop c.new-hints-in-Err-Idling.result.no_comma_from new.neutral));
       peak = omega (arith, h.keeps.room, c.in-Err-Idling.ensures.keeps.room, i.peak, peak_is, fits, need);
       need = inl c.used-need-in-Err-Idling.ensures.value;
       ready = i.ready;
@@ -64,7 +64,7 @@ returns-in-Err-perform-clause-driven g c = λ stops.
     let h = c.in-Err-perform.ensures.done in
     let done = c.min-reach.result - c.loop-left.left in
     drive-stays (g.P.Performer.performed c.args.performer) (standing (turning stops c.args.work.now c.args.meta.now c.args.at) c.args.source.now c.args.sink.now) stops c.loop-left.work c.perform.new.work c.loop-left.meta c.args.at done c.loop-left.peak
-    (g.P.Performer.declines c.args.performer) c.args.most done c.scan_steps.new.hints.plain_from c.perform.new.meta c.in-Err-perform.function c.going.result c.loop-left.source c.perform.new.source c.loop-left.sink c.perform.new.sink
+    (g.P.Performer.declines c.args.performer) c.args.most done c.scan_steps.new.hints.no_comma_from c.perform.new.meta c.in-Err-perform.function c.going.result c.loop-left.source c.perform.new.source c.loop-left.sink c.perform.new.sink
     (h.contents ∙ c.in-Err.ensures.comes.0) h.same_meta h.same_source h.same_sink c.going.ensures refl (inr (inr (subst (λ (w : Contents). g.P.Performer.declines c.args.performer (memory_of c.loop-left.meta w)) c.in-Err.ensures.comes.0 h.declined))) (i.goes stops)
 
 pub returns-in-Some-clause-driven : goal.returns-in-Some-clause-driven
@@ -83,7 +83,7 @@ returns-in-Some-clause-driven g c = λ stops.
     let counts = c.ended-report.ensures.counts (turning stops w c.loop-left.meta at) (memory_of c.perform.new.meta c.perform.new.work) refl refl in
     drive-ends performed start stops w c.perform.new.work c.loop-left.meta c.args.at done c.loop-left.peak
     (g.P.Performer.declines c.args.performer) c.args.most c.perform.new.meta last.need c.neutral_len-in-Some.result c.in-Some.fate _ c.loop-left.source c.perform.new.source c.loop-left.sink c.perform.new.sink h.keeps.room (omega (arith, i.allowed, i.few, c.loop-left-test.true)) (omega (arith, i.wanted, i.few, c.loop-left-test.true)) ends
-    (c.over.ensures ∙ ap (λ report. record { progress = record { done = done; next = None }; plain = c.neutral_len-in-Some.result; steps = report.steps; peak = report.peak; fate = Some report.fate }) counts) goes
+    (c.over.ensures ∙ ap (λ report. record { progress = record { done = done; next = None }; no_comma_from = c.neutral_len-in-Some.result; steps = report.steps; peak = report.peak; fate = Some report.fate }) counts) goes
 
 pub loop-left-preserved : goal.loop-left-preserved
 loop-left-preserved g c =
@@ -91,7 +91,7 @@ loop-left-preserved g c =
     let same = c.in-Err.ensures.comes.0 in
     let h = c.in-Ok-perform.ensures in
     let none = c.in_default.is in
-    let len = ap (λ (h : RunHints). h.plain_from) c.new-hints-in-Err.ensures ∙ c.neutral_len-in-Err.ensures.value in
+    let len = ap (λ (h : RunHints). h.no_comma_from) c.new-hints-in-Err.ensures ∙ c.neutral_len-in-Err.ensures.value in
     let peak_is = c.max-peak-in-Err.ensures in
     let done = c.min-reach.result - c.loop-left.left in
     let w = c.scan_steps.new.work in
@@ -104,7 +104,7 @@ loop-left-preserved g c =
       wanted = i.wanted;
       sound = h.keeps.sound;
       room = h.keeps.room ∙ c.in-Err.ensures.keeps.room ∙ i.room;
-      plain = λ k d within. absurd (omega (arith, len, length-drop c.new-hints-in-Err.result.plain_from c.perform.new.work.neutral));
+      no_comma_from = λ k d within. absurd (omega (arith, len, length-drop c.new-hints-in-Err.result.no_comma_from c.perform.new.work.neutral));
       peak = omega (arith, h.keeps.room, c.in-Err.ensures.keeps.room, h.fits, i.peak, peak_is);
       need = inl c.used-need-in-Err.ensures.value;
       ready = h.ready none;
@@ -122,5 +122,5 @@ returns-clause-driven g c = λ stops.
     let all : c.min-reach.result ≡ done = omega (arith, c.loop-left-test.false) in
     let why = least-of c.args.most (c.args.at.allowance - c.args.at.steps) c.min-reach.result c.min-reach.ensures in
     drive-stays (g.P.Performer.performed c.args.performer) (standing (turning stops c.args.work.now c.args.meta.now c.args.at) c.args.source.now c.args.sink.now) stops c.loop-left.work c.loop-left.work c.loop-left.meta c.args.at done c.loop-left.peak
-    (g.P.Performer.declines c.args.performer) c.args.most c.min-reach.result c.loop-left.hints.plain_from c.loop-left.meta None c.going-2.result c.loop-left.source c.loop-left.source c.loop-left.sink c.loop-left.sink
+    (g.P.Performer.declines c.args.performer) c.args.most c.min-reach.result c.loop-left.hints.no_comma_from c.loop-left.meta None c.going-2.result c.loop-left.source c.loop-left.source c.loop-left.sink c.loop-left.sink
     refl refl refl refl c.going-2.ensures all (⊎_elim (λ wanted. inl (sym all ∙ wanted)) (λ rest. inr (inl (omega (arith, all, rest, i.allowed, c.requires.steps)))) why) (i.goes stops)

@@ -51,7 +51,7 @@ returns-clause-last c =
     let k = (goal.at.returns-clause-last c).After-store_form in
     let s = c.self.inside.space in
     let put = added s c.store_form.new.space (form k) c.self.invariant.forms.whole c.store_form.ensures.stored in
-    rw (← c.self.view_is) (shown-restored _ s _ (forms_in s.store ++ form k ∷ []) (c.index_last.ensures.same ∙ ap (λ (w : Lists). record w { spare = c.index_last.new.space.spare }) put))
+    rw (← c.self.view_is) (shown-restored _ s _ (forms_in s.store ++ form k ∷ []) (c.index_last.ensures.same ∙ ap (λ (w : Lists). record w { index_area = c.index_last.new.space.index_area }) put))
 
 pub returns-clause-sound : goal.returns-clause-sound
 returns-clause-sound c = (invariant_of-self c).sound

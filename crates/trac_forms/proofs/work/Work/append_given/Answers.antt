@@ -38,7 +38,7 @@ returns-clause-last g c =
     let s = c.self.inside.space in
     let form = given c.args.name.now (g.B.Body.items c.args.body.now) c.args.pointer in
     let put = added s c.store_given.new.space form c.self.invariant.forms.whole c.store_given.ensures.stored in
-    rw (← c.self.view_is) (shown-restored _ s _ (forms_in s.store ++ form ∷ []) (c.index_last.ensures.same ∙ ap (λ (w : Lists). record w { spare = c.index_last.new.space.spare }) put))
+    rw (← c.self.view_is) (shown-restored _ s _ (forms_in s.store ++ form ∷ []) (c.index_last.ensures.same ∙ ap (λ (w : Lists). record w { index_area = c.index_last.new.space.index_area }) put))
 
 pub returns-clause-sound : goal.returns-clause-sound
 returns-clause-sound g c = (invariant_of-self g c).sound

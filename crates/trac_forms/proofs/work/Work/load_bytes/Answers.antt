@@ -1,10 +1,10 @@
-use Rattle.trac_forms.proofs.Imports.{◌+◌, ◌≤◌, length, arith, length-map, All-map, Byte, bytes, IsByte, claimed-kept}
+use Rattle.trac_forms.proofs.Imports.{◌+◌, ◌≤◌, length, arith, length-map, All-map, Byte, bytes, IsByte, reserved-kept}
 use Rattle.trac_space.specs.Lists as lists
 use Rattle.trac_forms.proofs.Strings.{used-stored, before-active}
 use Rattle.trac_forms.proofs.work.Work.load_bytes.Goals as goal
 
-pub claim-requires : goal.claim-requires
-claim-requires c =
+pub reserve-requires : goal.reserve-requires
+reserve-requires c =
     let used = used-stored c.self.inside.space c.self.invariant.forms.whole in
     let fits = rw (← c.self.view_is) at c.requires in
     omega arith
@@ -16,7 +16,7 @@ invariant_of-self c =
     let used = used-stored s c.self.invariant.forms.whole in
     let fits = rw (← c.self.view_is) at c.requires in
     let room : lists.used s + length (bytes text) ≤ s.room = omega (arith, length-map text Byte) in
-    before-active _ s c.claim.new.self _ _ _ _ (bytes text) (claimed-kept (length text) s) c.self.invariant (All-map IsByte Byte text (λ k d l. tt)) room c.claim.ensures.same c.load_bytes.ensures
+    before-active _ s c.reserve.new.self _ _ _ _ (bytes text) (reserved-kept (length text) s) c.self.invariant (All-map IsByte Byte text (λ k d l. tt)) room c.reserve.ensures.same c.load_bytes.ensures
 
 pub returns-clause-sound : goal.returns-clause-sound
 returns-clause-sound c = (invariant_of-self c).sound

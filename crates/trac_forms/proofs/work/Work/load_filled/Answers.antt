@@ -8,16 +8,16 @@ use Rattle.trac_forms.proofs.work.Work.load_filled.Goals.{After-called_place-ite
 abbrev Fills : Text → Lists → Lists → Option ℕ → Type 0
 Fills text s t result =
     MatchOption result
-    ((t ≡ record s { spare = t.spare }) × (s.room < lists.used s + length text))
-    (λ n. (length text ≡ n) × (lists.used s + n ≤ s.room) × (t ≡ record s { active = flat_text text ++ s.active; spare = t.spare }))
+    ((t ≡ record s { index_area = t.index_area }) × (s.room < lists.used s + length text))
+    (λ n. (length text ≡ n) × (lists.used s + n ≤ s.room) × (t ≡ record s { active = flat_text text ++ s.active; index_area = t.index_area }))
 
-stored : (text : Text) (s t : Lists) (result : Option ℕ) (count last start : ℕ) → IsKept s.spare t.spare → IsStored s count last start → Fills text s t result → IsStored t count last start
+stored : (text : Text) (s t : Lists) (result : Option ℕ) (count last start : ℕ) → IsKept s.index_area t.index_area → IsStored s count last start → Fills text s t result → IsStored t count last start
 stored text s t None count last start kept h is =
-    subst (λ (l : Lists). IsStored l count last start) (sym is.0) (restrung s count last start s.neutral s.active t.spare h h.sound.neutral h.sound.active (omega (arith, used-stored s h.forms.whole, h.sound.fits)) kept)
+    subst (λ (l : Lists). IsStored l count last start) (sym is.0) (restrung s count last start s.neutral s.active t.index_area h h.sound.neutral h.sound.active (omega (arith, used-stored s h.forms.whole, h.sound.fits)) kept)
 stored text s t (Some n) count last start kept h is =
     let size = length-map text Byte in
     let fits : lists.used s + length (flat_text text) ≤ s.room = omega (arith, size, is.0, is.1) in
-    before-active t.spare s (record s { spare = t.spare }) t count last start (flat_text text) kept h (bytes-flat text) fits refl is.2
+    before-active t.index_area s (record s { index_area = t.index_area }) t count last start (flat_text text) kept h (bytes-flat text) fits refl is.2
 
 seen : (text : Text) (s t : Lists) (result : Option ℕ) (count last start : ℕ) → IsStored s count last start → Fills text s t result → MatchOption result ((shown t ≡ shown s) × ((shown s).room < used (shown s) + length text)) (λ n. IsLoaded (shown s) (shown t) text n)
 seen text s t None count last start h is = (ap shown is.0, omega (arith, is.1, used-stored s h.forms.whole))

@@ -1,4 +1,4 @@
-use Rattle.trac_forms.proofs.Imports.{◌+◌, ◌-◌, ◌≤◌, ◌++◌, length, slice_range, refl, ap, ◌∙◌, arith, length-between, Lists, claimed-kept}
+use Rattle.trac_forms.proofs.Imports.{◌+◌, ◌-◌, ◌≤◌, ◌++◌, length, slice_range, refl, ap, ◌∙◌, arith, length-between, Lists, reserved-kept}
 use Rattle.trac_space.specs.Lists as lists
 use Rattle.trac_forms.proofs.Strings.{used-stored, before-active}
 use Rattle.trac_forms.proofs.work.Work.load_other_part.Goals as goal
@@ -16,10 +16,10 @@ invariant_of-self c =
     let more = slice_range s.neutral a b in
     let part = rw (← c.self.view_is) at c.requires in
     let used = used-stored s c.self.invariant.forms.whole in
-    let mid = c.claim.new.self in
+    let mid = c.reserve.new.self in
     let room : lists.used s + length more ≤ s.room = omega (arith, length-between s.neutral a b part.within) in
-    before-active _ s mid _ _ _ _ more (claimed-kept (b - a) s) c.self.invariant part.bytes room c.claim.ensures.same
-    (c.load_from_neutral.ensures ∙ ap (λ (l : Lists). record mid { active = slice_range l.neutral a b ++ mid.active }) c.claim.ensures.same)
+    before-active _ s mid _ _ _ _ more (reserved-kept (b - a) s) c.self.invariant part.bytes room c.reserve.ensures.same
+    (c.load_from_neutral.ensures ∙ ap (λ (l : Lists). record mid { active = slice_range l.neutral a b ++ mid.active }) c.reserve.ensures.same)
 
 pub returns-clause-loaded : goal.returns-clause-loaded
 returns-clause-loaded c =

@@ -3,8 +3,8 @@ use Rattle.trac_space.specs.Lists as lists
 use Rattle.trac_forms.proofs.Strings.{used-stored, before-active}
 use Rattle.trac_forms.proofs.work.Work.load_part.Goals as goal
 
-pub returns-then-size-free_beside_spare-clause-loaded : goal.returns-then-size-free_beside_spare-clause-loaded
-returns-then-size-free_beside_spare-clause-loaded c =
+pub returns-then-size-free_beside_index-clause-loaded : goal.returns-then-size-free_beside_index-clause-loaded
+returns-then-size-free_beside_index-clause-loaded c =
     let used = used-stored c.self.inside.space c.self.invariant.forms.whole in
     rw (← c.self.view_is) (λ e. omega arith, λ fits. refl)
 
@@ -14,7 +14,7 @@ invariant_of-self c =
     let more = slice_range s.neutral c.args.a c.args.b in
     let part = rw (← c.self.view_is) at c.requires in
     let room : lists.used s + length more ≤ s.room = omega (arith, length-between s.neutral c.args.a c.args.b part.within) in
-    before-active s.spare s s _ _ _ _ more (inl refl) c.self.invariant part.bytes room refl c.load_from_neutral.ensures
+    before-active s.index_area s s _ _ _ _ more (inl refl) c.self.invariant part.bytes room refl c.load_from_neutral.ensures
 
-pub returns-then-size-free_beside_spare-clause-sound : goal.returns-then-size-free_beside_spare-clause-sound
-returns-then-size-free_beside_spare-clause-sound c = (invariant_of-self c).sound
+pub returns-then-size-free_beside_index-clause-sound : goal.returns-then-size-free_beside_index-clause-sound
+returns-then-size-free_beside_index-clause-sound c = (invariant_of-self c).sound

@@ -1,4 +1,4 @@
-use Rattle.trac_forms.proofs.Imports.{◌≡◌, ◌≤◌, ◌++◌, false≢true, length, arith, map, slice_range, OnTrue, flat_text, item_of, called_part, claimed, claimed-kept, forms_in, shown}
+use Rattle.trac_forms.proofs.Imports.{◌≡◌, ◌≤◌, ◌++◌, false≢true, length, arith, map, slice_range, OnTrue, flat_text, item_of, called_part, reserved, reserved-kept, forms_in, shown}
 use Rattle.trac_forms.specs.Loading.{next_text}
 use Rattle.trac_forms.proofs.NextItems.{has-next, next-less, next-byte, next-fits, next-put}
 use Rattle.trac_forms.proofs.Strings.{used-stored, text-appended, shown-appended}
@@ -34,7 +34,7 @@ returns-clause-put c =
     )
 
 -- the text of that item is put at the end
-puts : (c : After-put_character) → c.called_place-items.result.to ≤ length c.self.inside.space.store → map item_of (slice_range c.self.inside.space.store c.called_place-items.result.from c.called_place-items.result.to) ≡ called_part (forms_in c.self.inside.space.store) c.args.form.number → OnTrue c.put_character.result (c.put_character.new.space ≡ record c.self.inside.space { neutral = c.self.inside.space.neutral ++ flat_text (next_text (shown c.self.inside.space) c.args.form.number); spare = (claimed 1 c.self.inside.space).spare })
+puts : (c : After-put_character) → c.called_place-items.result.to ≤ length c.self.inside.space.store → map item_of (slice_range c.self.inside.space.store c.called_place-items.result.from c.called_place-items.result.to) ≡ called_part (forms_in c.self.inside.space.store) c.args.form.number → OnTrue c.put_character.result (c.put_character.new.space ≡ record c.self.inside.space { neutral = c.self.inside.space.neutral ++ flat_text (next_text (shown c.self.inside.space) c.args.form.number); index_area = (reserved 1 c.self.inside.space).index_area })
 puts c inside items =
     let order = c.called_place-items.ensures.order in
     next-put c.self.inside.space c.args.form.number _ _ c.self.invariant.forms.whole order inside items _ c.put_character.result c.put_character.new.space (λ e. (c.put_character.ensures.put.0 e).0) (omega (arith, order, c.if-items.false)) c.put_character.ensures.last
@@ -46,7 +46,7 @@ invariant_of-self c =
     let s = c.self.inside.space in
     let whole = c.self.invariant.forms.whole in
     let order = c.called_place-items.ensures.order in
-    text-appended _ s c.put_character.new.space _ _ _ (next_text (shown s) c.args.form.number) c.put_character.result (claimed-kept _ s) c.self.invariant (λ e. omega (arith, (has-next s c.args.form.number _ _ whole order (within k) (are k) (omega (arith, order, c.if-items.false)) (c.put_character.ensures.put.0 e).0 (c.put_character.ensures.put.0 e).1).fits, used-stored s whole)) (puts at.After-put_character (within k) (are k)) c.put_character.ensures.left
+    text-appended _ s c.put_character.new.space _ _ _ (next_text (shown s) c.args.form.number) c.put_character.result (reserved-kept _ s) c.self.invariant (λ e. omega (arith, (has-next s c.args.form.number _ _ whole order (within k) (are k) (omega (arith, order, c.if-items.false)) (c.put_character.ensures.put.0 e).0 (c.put_character.ensures.put.0 e).1).fits, used-stored s whole)) (puts at.After-put_character (within k) (are k)) c.put_character.ensures.left
 
 pub returns-clause-last : goal.returns-clause-last
 returns-clause-last c =

@@ -10,7 +10,7 @@ here c =
     stands _ _ _ _ (c.self.invariant.forms.whole ∙ sym same) (rw (← c.self.view_is) at c.requires.form).within (rw (← c.self.view_is) at c.requires.form).start_is
 
 -- the lists without it
-gone : (c : After-remove_store) → c.remove_store.new.self ≡ record c.self.inside.space { store = flat_forms (remove (forms_in c.self.inside.space.store) c.args.form.number); spare = c.unindex.new.space.spare }
+gone : (c : After-remove_store) → c.remove_store.new.self ≡ record c.self.inside.space { store = flat_forms (remove (forms_in c.self.inside.space.store) c.args.form.number); index_area = c.unindex.new.space.index_area }
 gone c =
     let s = c.self.inside.space in
     let rest = flat_forms (remove (forms_in s.store) c.args.form.number) in

@@ -1,4 +1,4 @@
-use Rattle.trac_forms.proofs.Imports.{take, true, arith, length-take-le, claimed-kept}
+use Rattle.trac_forms.proofs.Imports.{take, true, arith, length-take-le, reserved-kept}
 use Rattle.trac_forms.proofs.Strings.{used-stored, text-appended}
 use Rattle.trac_forms.proofs.work.WorkNeutral.push_before.Goals as goal
 
@@ -7,7 +7,7 @@ invariant_of-self c =
     let s = c.self.inside in
     let n = c.push_before.result in
     let size = length-take-le n c.args.text.now c.push_before.ensures.within in
-    text-appended _ s.space c.push_before.new.self s.count s.last.number s.last.start (take n c.args.text.now) true (claimed-kept n s.space) c.self.invariant (λ e. omega (arith, size, c.push_before.ensures.fits)) c.push_before.ensures.last tt
+    text-appended _ s.space c.push_before.new.self s.count s.last.number s.last.start (take n c.args.text.now) true (reserved-kept n s.space) c.self.invariant (λ e. omega (arith, size, c.push_before.ensures.fits)) c.push_before.ensures.last tt
 
 pub returns-clause-stops : goal.returns-clause-stops
 returns-clause-stops c =

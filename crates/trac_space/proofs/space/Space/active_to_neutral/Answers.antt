@@ -1,5 +1,5 @@
 use Rattle.trac_space.proofs.Imports.{◌++◌, ◌∙◌, take, arith, refl, map-append}
-use Rattle.trac_space.proofs.BlockChanges.{parts_of, sizes, shown, laid-more, parts-to_neutral}
+use Rattle.trac_space.proofs.BlockChanges.{parts_of, sizes, shown, tagged-more, parts-to_neutral}
 use Rattle.trac_space.proofs.Seen.{seen-drop_active}
 use Rattle.trac_space.proofs.Runs.{front-seen}
 use Rattle.trac_space.proofs.space.Space.active_to_neutral.Goals as goal
@@ -20,5 +20,5 @@ invariant_of-self c =
     let size = sizes h c.self.view_is in
     let right = (parts_of c.self.inside).right in
     let moved = parts-to_neutral h c.args.n _ (omega arith) c.copy_cells.ensures.after in
-    laid-more _ h moved refl (omega arith) (omega arith) (take c.args.n right) refl refl
+    tagged-more _ h moved refl (omega arith) (omega arith) (take c.args.n right) refl refl
     (rw (front-seen right c.self.inside.active c.args.n (omega arith)) at (rw (← c.self.view_is) at c.requires.no_call))

@@ -1,5 +1,5 @@
 use Rattle.trac_space.proofs.Imports.{◌++◌, ◌∙◌, length, map, take, ap, arith, refl, length-map, Byte, seen, seen_lists}
-use Rattle.trac_space.proofs.BlockChanges.{parts_of, sizes, shown, laid, parts-load}
+use Rattle.trac_space.proofs.BlockChanges.{parts_of, sizes, shown, tagged, parts-load}
 use Rattle.trac_space.proofs.Seen.{seen-more_active, seen-bytes}
 use Rattle.trac_space.proofs.space.Space.load_bytes.Goals as goal
 
@@ -23,4 +23,4 @@ invariant_of-self c =
     let size = sizes h c.self.view_is in
     let long = ap length c.write_bytes.ensures ∙ length-map c.args.text.now Byte in
     let moved = parts-load h c.write_bytes.new.cells _ (length c.args.text.now) long (omega arith) refl in
-    laid _ h moved refl (omega arith) (omega arith) h.calls h.linked
+    tagged _ h moved refl (omega arith) (omega arith) h.calls h.linked

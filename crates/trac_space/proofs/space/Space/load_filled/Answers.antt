@@ -1,7 +1,7 @@
 use Rattle.trac_space.proofs.Imports.{◌≡◌, ◌+◌, ◌-◌, ◌++◌, List, length, map, slice_range, refl, sym, ap, ◌∙◌, arith, length-map, take-map, drop-map, Cell, lists, seen, filled, Lists}
-use Rattle.trac_space.specs.Overlay.{under}
-use Rattle.trac_space.proofs.BlockChanges.{sizes, shown, laid, parts_of, parts-more, parts-kept, neutral-part, store-part}
-use Rattle.trac_space.proofs.Lifted.{seen-under}
+use Rattle.trac_space.specs.Tags.{untagged}
+use Rattle.trac_space.proofs.BlockChanges.{sizes, shown, tagged, parts_of, parts-more, parts-kept, neutral-part, store-part}
+use Rattle.trac_space.proofs.Cleared.{seen-untagged}
 use Rattle.trac_space.proofs.Seen.{seen-more_active}
 use Rattle.trac_space.proofs.SeenParts.{commas-from-seen, filled-seen}
 use Rattle.trac_space.proofs.space.Space.load_filled.Goals as goal
@@ -40,10 +40,10 @@ fill_cells-requires-clause-given c =
 abbrev more : After-fill_cells → List Cell
 more c =
     let s = c.self.inside in
-    filled (map under (slice_range s.cells.now (s.store + c.args.first) (s.store + c.args.first + (c.args.end - c.args.first)))) (slice_range s.cells.now c.args.a c.args.b)
+    filled (map untagged (slice_range s.cells.now (s.store + c.args.first) (s.store + c.args.first + (c.args.end - c.args.first)))) (slice_range s.cells.now c.args.a c.args.b)
 
 -- what is put, as contracts see it
-is_seen : (c : After-fill_cells) → map seen (slice_range c.self.inside.cells.now (c.self.inside.store + c.args.first) (c.self.inside.store + c.args.end)) ≡ slice_range c.args.self.now.neutral c.args.first c.args.end → map seen (more c) ≡ filled (map under (slice_range c.args.self.now.neutral c.args.first c.args.end)) (slice_range c.args.self.now.store c.args.a c.args.b)
+is_seen : (c : After-fill_cells) → map seen (slice_range c.self.inside.cells.now (c.self.inside.store + c.args.first) (c.self.inside.store + c.args.end)) ≡ slice_range c.args.self.now.neutral c.args.first c.args.end → map seen (more c) ≡ filled (map untagged (slice_range c.args.self.now.neutral c.args.first c.args.end)) (slice_range c.args.self.now.store c.args.a c.args.b)
 is_seen c shown_given =
     let s = c.self.inside in
     let size = sizes c.self.invariant c.self.view_is in
@@ -53,13 +53,13 @@ is_seen c shown_given =
     ap (map seen) (store-part c.self.invariant c.args.a c.args.b c.requires.order (omega (arith, c.requires.within, size.store)))
     ∙ simp (take-map, drop-map) refl
     ∙ ap (λ (l : Lists). slice_range l.store c.args.a c.args.b) c.self.view_is in
-    ap (λ e. map seen (filled (map under (slice_range s.cells.now (s.store + c.args.first) e)) (slice_range s.cells.now c.args.a c.args.b))) end
-    ∙ filled-seen (map under raw) (slice_range s.cells.now c.args.a c.args.b)
-    ∙ ap (λ l. filled l (map seen (slice_range s.cells.now c.args.a c.args.b))) (seen-under raw ∙ ap (map under) shown_given)
-    ∙ ap (filled (map under (slice_range c.args.self.now.neutral c.args.first c.args.end))) items
+    ap (λ e. map seen (filled (map untagged (slice_range s.cells.now (s.store + c.args.first) e)) (slice_range s.cells.now c.args.a c.args.b))) end
+    ∙ filled-seen (map untagged raw) (slice_range s.cells.now c.args.a c.args.b)
+    ∙ ap (λ l. filled l (map seen (slice_range s.cells.now c.args.a c.args.b))) (seen-untagged raw ∙ ap (map untagged) shown_given)
+    ∙ ap (filled (map untagged (slice_range c.args.self.now.neutral c.args.first c.args.end))) items
 
 -- how many cells are put
-long : (c : After-fill_cells) → map seen (more c) ≡ filled (map under (slice_range c.args.self.now.neutral c.args.first c.args.end)) (slice_range c.args.self.now.store c.args.a c.args.b) → length (filled (map under (slice_range c.args.self.now.neutral c.args.first c.args.end)) (slice_range c.args.self.now.store c.args.a c.args.b)) ≡ length (more c)
+long : (c : After-fill_cells) → map seen (more c) ≡ filled (map untagged (slice_range c.args.self.now.neutral c.args.first c.args.end)) (slice_range c.args.self.now.store c.args.a c.args.b) → length (filled (map untagged (slice_range c.args.self.now.neutral c.args.first c.args.end)) (slice_range c.args.self.now.store c.args.a c.args.b)) ≡ length (more c)
 long c is = sym (ap length is) ∙ length-map (more c) seen
 
 pub returns-in-Some : goal.returns-in-Some
@@ -76,9 +76,9 @@ returns-in-Some c =
     let is = is_seen k (given_seen at.After-self) in
     let n_is : length (more k) ≡ n = omega (arith, start) in
     let moved = parts-more h (more k) c.fill_cells.new.cells n c.in-Some.start n_is (omega (arith, start, h.fits)) low put.len put.front put.put.2 in
-    let put_is = filled (map under (slice_range c.args.self.now.neutral c.args.first c.args.end)) (slice_range c.args.self.now.store c.args.a c.args.b) in (
+    let put_is = filled (map untagged (slice_range c.args.self.now.neutral c.args.first c.args.end)) (slice_range c.args.self.now.store c.args.a c.args.b) in (
       long k is ∙ n_is,
-      omega (arith, low, n_is, start, size.store, size.neutral, size.active, size.spare, size.room, h.fits, h.behind),
+      omega (arith, low, n_is, start, size.store, size.neutral, size.active, size.index_area, size.room, h.fits, h.behind),
       shown (s.active + n) moved
           ∙ seen-more_active (parts_of s) s.active n (more k) n_is
           ∙ ap (λ (cells : List Cell). record (lists s) { active = cells ++ (lists s).active }) is
@@ -96,7 +96,7 @@ returns-in-None c =
     let past = put.put in
     let all = long k (is_seen k (given_seen at.After-self)) in (
       shown s.active (parts-kept h c.fill_cells.new.cells put.len put.front put.behind) ∙ c.self.view_is,
-      omega (arith, past, all, size.store, size.neutral, size.active, size.spare, size.room, h.fits, h.behind),
+      omega (arith, past, all, size.store, size.neutral, size.active, size.index_area, size.room, h.fits, h.behind),
     )
 
 pub invariant_of-self : goal.invariant_of-self
@@ -112,11 +112,11 @@ invariant_of-self c =
     let n = s.end - s.active - c.in-Some.start in
     let n_is : length (more k) ≡ n = omega (arith, start) in
     let moved = parts-more h (more k) c.fill_cells.new.cells n c.in-Some.start n_is (omega (arith, start, fits)) low put.len put.front put.put.2 in
-    laid _ h moved refl (omega (arith, fits, low, start, n_is)) (omega (arith, behind)) h.calls h.linked
+    tagged _ h moved refl (omega (arith, fits, low, start, n_is)) (omega (arith, behind)) h.calls h.linked
 
 pub invariant_of-self-in-None : goal.invariant_of-self-in-None
 invariant_of-self-in-None c =
     let h = c.self.invariant in
     let fits = h.fits in
     let put = c.in-None.ensures in
-    laid _ h (parts-kept h c.fill_cells.new.cells put.len put.front put.behind) refl (omega (arith, fits)) (omega (arith, h.behind)) h.calls h.linked
+    tagged _ h (parts-kept h c.fill_cells.new.cells put.len put.front put.behind) refl (omega (arith, fits)) (omega (arith, h.behind)) h.calls h.linked

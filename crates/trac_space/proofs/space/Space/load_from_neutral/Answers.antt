@@ -1,5 +1,5 @@
 use Rattle.trac_space.proofs.Imports.{◌≡◌, ◌+◌, ◌-◌, ◌++◌, ◌∙◌, ap, arith, refl, map, take, slice_range, copy_within, length-between, seen_lists, seen}
-use Rattle.trac_space.proofs.BlockChanges.{sizes, shown, maps, laid, parts-before, neutral-part, parts_of}
+use Rattle.trac_space.proofs.BlockChanges.{sizes, shown, maps, tagged, parts-before, neutral-part, parts_of}
 use Rattle.trac_space.proofs.Seen.{seen-more_active}
 use Rattle.trac_space.proofs.space.Space.load_from_neutral.Goals as goal
 
@@ -25,4 +25,4 @@ invariant_of-self c =
     let size = sizes h c.self.view_is in
     let end : (s.store + c.args.a) + (c.args.b - c.args.a) ≡ (s.store + c.args.b) = omega arith in
     let moved = parts-before h (s.store + c.args.a) (s.store + c.args.b) (c.args.b - c.args.a) _ (omega arith) (omega arith) (omega arith) (c.copy_apart.ensures.after ∙ ap (λ j. copy_within s.cells.now (s.store + c.args.a) j (s.end - (s.active + (c.args.b - c.args.a)))) end) in
-    laid _ h moved refl (omega arith) (omega arith) h.calls h.linked
+    tagged _ h moved refl (omega arith) (omega arith) h.calls h.linked

@@ -1,5 +1,5 @@
 use Rattle.trac_space.proofs.Imports.{◌≡◌, ℕ, ◌+◌, ◌≤◌, List, length, ◌∙◌, take, drop, map, arith, rules, refl, length-map, places, seen}
-use Rattle.trac_space.proofs.BlockChanges.{sizes, shown, maps, laid, parts-open}
+use Rattle.trac_space.proofs.BlockChanges.{sizes, shown, maps, tagged, parts-open}
 use Rattle.trac_space.proofs.space.Space.open_store.Goals as goal
 
 -- cells of a block, as many as were asked for
@@ -19,4 +19,4 @@ invariant_of-self c =
     let h = c.self.invariant in
     let size = sizes h c.self.view_is in
     let moved = parts-open h c.args.n c.copy_higher.new.cells (omega (arith, c.requires)) c.copy_higher.ensures.after in
-    laid _ h moved refl (omega arith) (omega arith) h.calls h.linked
+    tagged _ h moved refl (omega arith) (omega arith) h.calls h.linked

@@ -1,5 +1,5 @@
 use Rattle.trac_space.proofs.Imports.{◌∙◌, arith, refl, length, ap, length-map, Byte}
-use Rattle.trac_space.proofs.BlockChanges.{sizes, shown, maps, laid-more, parts-append}
+use Rattle.trac_space.proofs.BlockChanges.{sizes, shown, maps, tagged-more, parts-append}
 use Rattle.trac_space.proofs.Seen.{seen-bytes, no_call-bytes}
 use Rattle.trac_space.proofs.space.Space.put_bytes.Goals as goal
 
@@ -17,5 +17,5 @@ invariant_of-self c =
     let size = sizes h c.self.view_is in
     let long = ap length c.write_bytes.ensures ∙ length-map c.args.text.now Byte in
     let moved = parts-append h c.write_bytes.new.cells _ (length c.args.text.now) (omega (arith, long)) (omega arith) refl in
-    laid-more _ h moved refl (omega arith) (omega arith) c.write_bytes.new.cells refl refl
+    tagged-more _ h moved refl (omega arith) (omega arith) c.write_bytes.new.cells refl refl
     (rw (c.write_bytes.ensures, seen-bytes c.args.text.now) (no_call-bytes c.args.text.now))

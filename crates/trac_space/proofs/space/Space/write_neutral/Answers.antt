@@ -1,5 +1,5 @@
 use Rattle.trac_space.proofs.Imports.{◌≡◌, ◌∙◌, arith, refl, false, is_call, Byte, get_or, sym}
-use Rattle.trac_space.proofs.BlockChanges.{sizes, shown, maps, laid, parts-write_neutral, parts_of}
+use Rattle.trac_space.proofs.BlockChanges.{sizes, shown, maps, tagged, parts-write_neutral, parts_of}
 use Rattle.trac_space.proofs.Calls.{call-seen, marks-write, marks-calls, marks-linked}
 use Rattle.trac_space.proofs.Seen.{seen-no_call}
 use Rattle.trac_space.proofs.space.Space.write_neutral.Goals as goal
@@ -19,4 +19,4 @@ invariant_of-self c =
     let moved = parts-write_neutral h c.args.i c.args.cell (omega arith) in
     let was : is_call (get_or neutral c.args.i (Byte 0)) ≡ false = sym (call-seen neutral c.args.i) ∙ (rw (← c.self.view_is) at c.requires.for_no_call) in
     let same = marks-write neutral c.args.i c.args.cell c.requires.no_call was in
-    laid _ h moved refl (omega arith) (omega arith) (marks-calls neutral _ same _ h.calls) (marks-linked neutral _ same h.linked)
+    tagged _ h moved refl (omega arith) (omega arith) (marks-calls neutral _ same _ h.calls) (marks-linked neutral _ same h.linked)

@@ -6,7 +6,7 @@ use Rattle.trac_store.proofs.indexed_forms.IndexedForms.start_if_named.Goals as 
 
 module _ (table : List Cell) (forms : List Form) (k : ℕ) (index : IsIndex (map seen table) forms) (within : k < length forms) where
   place-in : 2 * (length table / 4) + k < length table
-  place-in = omega (arith, index.roomy, within, length-map table seen)
+  place-in = omega (arith, index.overflow, within, length-map table seen)
 
   -- the table says where form k begins
   begins : head_number (Some (get_or table (2 * (length table / 4) + k) (Byte 0))) ≡ start_of forms k
