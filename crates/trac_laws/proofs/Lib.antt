@@ -1,7 +1,9 @@
 pub mod Cases
 pub mod CharactersCases
+pub mod Deeds
 pub mod Examples
 pub mod Fitting
+pub mod Following
 pub mod FormsKept
 pub mod FunctionsCases
 pub mod FurtherInput
@@ -18,4 +20,6 @@ pub mod Stepping
 pub mod Stores
 pub mod TakenInput
 pub mod UnreadInput
+pub mod Values
 mod Imports
+mod TableImports

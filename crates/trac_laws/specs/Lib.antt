@@ -1,4 +1,5 @@
 pub mod Balance
+pub mod Columns
 pub mod Fitting
 pub mod LastRead
 pub mod Laws

@@ -1,10 +1,17 @@
 //! Laws of the definition: what the room and the allowance of a whole run decide, and what single steps do.
-//! Each function proves its law and does nothing.
+//! Each function proves its law and does nothing. No program runs any of it: the crate exists for the prover.
 #![tactic(auto)]
+
+mod table;
 
 ghost use Rattle.trac_laws.specs.Laws.{MoreRoom, MoreSteps, FewerSteps, LeastRoom, LessRoom};
 ghost use Rattle.trac_laws.specs.Laws.{Quoted, OneProtected, FindsProtected, KeepsForms, RuleFits};
 ghost use Rattle.trac_laws.specs.Laws.{ReadsNoFurther, StepFits};
+
+pub use table::{
+    chooses, ends_only, gives_default, gives_forms, leaves_forms, leaves_input, leaves_meta,
+    leaves_others, needs_form, prints_nothing, uses_few,
+};
 
 /// A run whose fate isn't `Workspace` is the same in every larger room.
 pub fn more_room()

@@ -1,9 +1,9 @@
 -- The laws on arguments, forms and values, function by function.
-use Rattle.trac_table_laws.proofs.Imports.{◌≡◌, ◌⊎◌, inl, inr, ℕ, zero, suc, ◌+◌, ◌<◌, Bool, true, false, List, [], ◌∷◌, ◌++◌, take, Option, Some, None, ℤ, pos, refl, sym, ap, ◌∙◌, subst, arith, unwrap_or, flat_map, codes, bytes_eq, if◌then◌else◌, map}
-use Rattle.trac_table_laws.proofs.Imports.{Form, Meaning, World, before_meta, from_meta, change_meta, forced, form_of_call, on_form, read_all, read_character, read_string, result_or, silent, meaning_of, number, prefix, arith_of, characters, initial_part, next_segment, argument}
-use Rattle.trac_table_laws.proofs.Imports.{traits, Text, Add, Subtract, Multiply, Divide, Function, emptied, value_of}
+use Rattle.trac_laws.proofs.TableImports.{◌≡◌, ◌⊎◌, inl, inr, ℕ, zero, suc, ◌+◌, ◌<◌, Bool, true, false, List, [], ◌∷◌, ◌++◌, take, Option, Some, None, ℤ, pos, refl, sym, ap, ◌∙◌, subst, arith, unwrap_or, flat_map, codes, bytes_eq, if◌then◌else◌, map}
+use Rattle.trac_laws.proofs.TableImports.{Form, Meaning, World, before_meta, from_meta, change_meta, forced, form_of_call, on_form, read_all, read_character, read_string, result_or, silent, meaning_of, number, prefix, arith_of, characters, initial_part, next_segment, argument}
+use Rattle.trac_laws.proofs.TableImports.{traits, Text, Add, Subtract, Multiply, Divide, Function, emptied, value_of}
 use Rattle.trac_language.specs.declared.function.Function.TheVariants as function
-use Rattle.trac_table_laws.specs.Columns.{UsesFew, NeedsForm, GivesBody, GivesPart, GivesNothing, GivesDefault, Chooses}
+use Rattle.trac_laws.specs.Columns.{UsesFew, NeedsForm, GivesBody, GivesPart, GivesNothing, GivesDefault, Chooses}
 
 -- ---- arguments
 

@@ -1,10 +1,9 @@
 //! That the table of functions is true: a law for each column, for all calls in all worlds. Each function proves its
-//! law and does nothing. The crate exists for the prover alone: no program stands on it.
-#![tactic(auto)]
+//! law and does nothing.
 
-ghost use Rattle.trac_table_laws.specs.Columns.{Chooses, EndsOnly, GivesBody, GivesDefault, GivesNothing};
-ghost use Rattle.trac_table_laws.specs.Columns.{GivesPart, LeavesForms, LeavesInput, LeavesMeta, LeavesOthers};
-ghost use Rattle.trac_table_laws.specs.Columns.{NeedsForm, OnlyDefault, PrintsNothing, UsesFew};
+ghost use Rattle.trac_laws.specs.Columns.{Chooses, EndsOnly, GivesBody, GivesDefault, GivesNothing};
+ghost use Rattle.trac_laws.specs.Columns.{GivesPart, LeavesForms, LeavesInput, LeavesMeta, LeavesOthers};
+ghost use Rattle.trac_laws.specs.Columns.{NeedsForm, OnlyDefault, PrintsNothing, UsesFew};
 
 /// How many arguments a function uses: what stands behind them makes no difference.
 pub fn uses_few()

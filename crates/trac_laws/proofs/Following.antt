@@ -1,9 +1,9 @@
 -- The laws that follow from what each function does.
-use Rattle.trac_table_laws.proofs.Imports.{◌≡◌, true, false, List, [], refl}
-use Rattle.trac_table_laws.proofs.Imports.{Ends, Meaning, World, meaning_of, form_named, traits, Text, Halted, Function, Always, concerns, IsDefault}
+use Rattle.trac_laws.proofs.TableImports.{◌≡◌, true, false, List, [], refl}
+use Rattle.trac_laws.proofs.TableImports.{Ends, Meaning, World, meaning_of, form_named, traits, Text, Halted, Function, Always, concerns, IsDefault}
 use Rattle.trac_language.specs.declared.function.Function.TheVariants as function
-use Rattle.trac_table_laws.proofs.Deeds.{Deed, Reads, Stops, Halts, TurnsMeta, Prints, Values, Defaults, Changes, deed}
-use Rattle.trac_table_laws.specs.Columns.{LeavesForms, LeavesOthers, LeavesInput, LeavesMeta, PrintsNothing, EndsOnly, OnlyDefault}
+use Rattle.trac_laws.proofs.Deeds.{Deed, Reads, Stops, Halts, TurnsMeta, Prints, Values, Defaults, Changes, deed}
+use Rattle.trac_laws.specs.Columns.{LeavesForms, LeavesOthers, LeavesInput, LeavesMeta, PrintsNothing, EndsOnly, OnlyDefault}
 
 module _ (f : Function) (args : List Text) (w : World) where
   forms : (m : Meaning) → (traits f).changes_forms ≡ false → Deed f args w m → Always (λ answer. answer.world.forms ≡ w.forms) m

@@ -1,5 +1,5 @@
-use Rattle.trac_table_laws.proofs.Values as values
-use Rattle.trac_table_laws.proofs.gives_forms.Goals as goal
+use Rattle.trac_laws.proofs.Values as values
+use Rattle.trac_laws.proofs.table.gives_forms.Goals as goal
 
 pub returns-clause-body : goal.returns-clause-body
 returns-clause-body c = values.gives_body

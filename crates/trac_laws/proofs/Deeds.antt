@@ -1,8 +1,8 @@
 -- What a call does to the world: one case for each kind of deed, with what the table says of functions that do it. Such
 -- cases stand in trac_laws/proofs/Shape.antt too, which knows no table.
-use Rattle.trac_table_laws.proofs.Imports.{◌≡◌, ◌≢◌, ℕ, Bool, true, false, not, List, [], ◌∷◌, ◌++◌, drop, Option, Some, None, ℤ, pos, refl, sym, ◌∙◌, subst, bytes_decides, bytes_eq, filter, list_any, if◌then◌else◌}
-use Rattle.trac_table_laws.proofs.Imports.{Form, Ends, Meaning, World, before_meta, from_meta, change_meta, forced, on_form, printing, read_all, read_character, read_string, result_or, segmented, silent, take_part, valued, with_form, with_input, meaning_of, number, prefix, arith_of, Part, characters, initial_part, next_segment}
-use Rattle.trac_table_laws.proofs.Imports.{argument, changed, form_named, without, traits, Text, Fate, Halted, InputEnded, InputFailed, Function, concerns}
+use Rattle.trac_laws.proofs.TableImports.{◌≡◌, ◌≢◌, ℕ, Bool, true, false, not, List, [], ◌∷◌, ◌++◌, drop, Option, Some, None, ℤ, pos, refl, sym, ◌∙◌, subst, bytes_decides, bytes_eq, filter, list_any, if◌then◌else◌}
+use Rattle.trac_laws.proofs.TableImports.{Form, Ends, Meaning, World, before_meta, from_meta, change_meta, forced, on_form, printing, read_all, read_character, read_string, result_or, segmented, silent, take_part, valued, with_form, with_input, meaning_of, number, prefix, arith_of, Part, characters, initial_part, next_segment}
+use Rattle.trac_laws.proofs.TableImports.{argument, changed, form_named, without, traits, Text, Fate, Halted, InputEnded, InputFailed, Function, concerns}
 use Rattle.trac_language.specs.declared.function.Function.TheVariants as function
 
 -- a form of another name is as it was

@@ -1,6 +1,6 @@
-use Rattle.trac_table_laws.proofs.Following as following
-use Rattle.trac_table_laws.proofs.Values as values
-use Rattle.trac_table_laws.proofs.gives_default.Goals as goal
+use Rattle.trac_laws.proofs.Following as following
+use Rattle.trac_laws.proofs.Values as values
+use Rattle.trac_laws.proofs.table.gives_default.Goals as goal
 
 pub returns-clause-only : goal.returns-clause-only
 returns-clause-only c = following.only_default

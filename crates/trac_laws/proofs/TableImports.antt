@@ -19,4 +19,4 @@ pub use Rattle.trac_language.specs.declared.fate.Fate.{Fate}
 pub use Rattle.trac_language.specs.declared.fate.Fate.TheVariants.{Halted, InputEnded, InputFailed}
 pub use Rattle.trac_language.specs.declared.function.Function.{Function}
 pub use Rattle.trac_language.specs.declared.table.Concerned.{Concerned}
-pub use Rattle.trac_table_laws.specs.Columns.{Always, concerns, emptied, value_of, IsDefault}
+pub use Rattle.trac_laws.specs.Columns.{Always, concerns, emptied, value_of, IsDefault}

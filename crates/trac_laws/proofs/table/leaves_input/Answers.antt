@@ -1,0 +1,5 @@
+use Rattle.trac_laws.proofs.Following as proofs
+use Rattle.trac_laws.proofs.table.leaves_input.Goals as goal
+
+pub returns : goal.returns
+returns c = proofs.leaves_input

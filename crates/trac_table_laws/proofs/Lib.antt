@@ -1,4 +1,0 @@
-pub mod Deeds
-pub mod Following
-pub mod Values
-mod Imports

@@ -1,5 +1,0 @@
-use Rattle.trac_table_laws.proofs.Following as proofs
-use Rattle.trac_table_laws.proofs.leaves_input.Goals as goal
-
-pub returns : goal.returns
-returns c = proofs.leaves_input
