@@ -309,7 +309,7 @@ fn lay_lines<A: Allocator + Copy>(
         machine.steps()
     };
     if let Some(fate) = fate {
-        shown.tell_end(fate, machine)?;
+        shown.add_end(fate, machine)?;
     }
     let mut text = Vec::new(alloc);
     push_folded(&mut text, trace.head(), trace.columns)?;
