@@ -197,7 +197,7 @@ marked-first neutral from end n s t h le is marked =
     let read : forms_in t.store ≡ with_marks (name ∷ []) (forms_in s.store) = ap (λ (w : Lists). forms_in w.store) marked ∙ forms_in-flat (with_marks (name ∷ []) (forms_in s.store)) in
     ap (with_marks _) read ∙ sym (marks-first name _ (forms_in s.store)) ∙ ap (λ ts. with_marks ts (forms_in s.store)) (sym (texts-split neutral from end n h le is))
 
--- marks change the store and the spare list alone
+-- marks change the store and the index area alone
 pub marked-alone : (old s t u : Lists) (cells : List Cell) → s ≡ record old { store = s.store; index_area = s.index_area } → t ≡ record s { index_area = t.index_area } → u ≡ record t { store = cells } → u ≡ record old { store = u.store; index_area = u.index_area }
 marked-alone old s t u cells before kept marked =
     marked ∙ ap (λ (w : Lists). record w { store = cells }) kept ∙ ap (λ (w : Lists). record w { store = cells; index_area = t.index_area }) before

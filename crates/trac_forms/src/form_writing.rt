@@ -13,7 +13,7 @@ use trac_language::Item;
 use trac_space::{Cell, Part, Space};
 
 // Appends the cells of a new form to the store: three head cells, its name and its text, both copied from
-// neutral, and pointer 0. They must fit; the spare list is dropped if they fit only without it.
+// neutral, and pointer 0. They must fit; the index area is dropped if they fit only without it.
 pub(crate) fn store_form(space: &mut Space, name: Part, text: Part)
     requires parts { AreNameAndText space.old.neutral name text }
     requires room { lists.used space.old + cells_for name text ≤ space.old.room }
@@ -50,7 +50,7 @@ fn write_form(space: &mut Space, start: u32, name: Part, text: Part)
 }
 
 // Appends the cells of a form that is given to the store: three head cells, its name and the `len` items of its
-// body. They must fit; the spare list is dropped if they fit only without it.
+// body. They must fit; the index area is dropped if they fit only without it.
 pub(crate) fn store_given<B: Body>(
     space: &mut Space,
     name: &[u8],

@@ -1,6 +1,6 @@
 //! The index of the forms: it is made once searches have cost enough, and follows each change of the forms.
 //!
-//! It is a table in the spare list, laid out as the `IndexedForms` of `trac_store` read it.
+//! It is a table in the index area, laid out as the `IndexedForms` of `trac_store` read it.
 ghost use Rattle.std.specs.Prelude.{◌≡◌, [], ◌<◌, ◌≤◌, ◌^◌, ◌+◌, ◌*◌};
 ghost use Rattle.std.specs.Prelude.{ℕ, length, take, remove, IsTrue};
 ghost use Rattle.std.specs.Bool.{OnTrue, OnFalse};

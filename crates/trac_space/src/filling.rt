@@ -1,5 +1,5 @@
 //! Copies cells of the store to the front of active, and fills their gaps with what stands between comma
-//! marks. Meanwhile the places of the comma marks lie over the first cells that they part.
+//! marks. Meanwhile the places of the comma marks are the tags of the first cells that they part.
 ghost use Rattle.std.specs.Prelude.{◌≡◌, ◌+◌, ◌-◌, ◌≤◌, ◌<◌, ◌++◌, IsTrue, All, length, take, drop};
 ghost use Rattle.std.specs.Prelude.{map, slice_range, slice_index_or, suc};
 ghost use Rattle.std.specs.List.{copy_within};
@@ -15,7 +15,7 @@ use crate::copies::{BLOCK, HIGHER, copy_at_once, copy_short};
 use crate::tags::{clear_tags, present_tag, tagged, untagged_cell};
 
 // The cells whose parts fill the gaps: where they begin in the block, how many they are, and how many
-// comma marks are among them. The places of the comma marks lie over the first of these cells.
+// comma marks are among them. The places of the comma marks are the tags of the first of these cells.
 #[derive(Clone, Copy)]
 pub(crate) struct ArgumentTable {
     pub(crate) start: usize,
@@ -129,7 +129,7 @@ fn fill_each(
     Some(to)
 }
 
-// Copies `n` cells to a higher place apart, without the numbers that lie over them.
+// Copies `n` cells to a higher place apart, without their tags.
 #[inline(always)]
 fn put_untagged(cells: &mut [Cell], start: usize, to: usize, n: usize, given: ArgumentTable)
     requires apart { start + n ≤ to }

@@ -1,4 +1,4 @@
-//! Numbers laid over cells of neutral for a while. A character or a comma mark leaves 24 bits of its
+//! Tags: numbers that cells of neutral carry for a while. A character or a comma mark leaves 24 bits of its
 //! cell free, enough for each place of a block. So a search for a text keeps its table in the cells of
 //! that text, and needs no other memory.
 ghost use Rattle.std.specs.Prelude.{◌≡◌, ◌<◌, IsTrue, map};
@@ -7,7 +7,7 @@ ghost use Rattle.trac_space.specs.Tags.{takes_tag, untagged, tag_of, has_tag};
 
 use crate::cell::{Cell, UNREACHED_NUMBER};
 
-/// Lays a number over a character or a comma mark. `untagged_cell` and `tag_or_zero` read the two back.
+/// A character or a comma mark with a number as its tag. `untagged_cell` and `tag_or_zero` read the two back.
 #[inline]
 pub fn tagged(cell: Cell, number: u32) -> Cell
     requires takes { IsTrue (takes_tag cell) }
@@ -23,7 +23,7 @@ pub fn tagged(cell: Cell, number: u32) -> Cell
     }
 }
 
-/// The character or comma mark under a number. A cell without a number stays as it is.
+/// The character or comma mark of a cell without its tag. A cell that has none stays as it is.
 #[inline]
 pub fn untagged_cell(cell: Cell) -> Cell
     ensures { result ≡ untagged cell }
@@ -35,7 +35,7 @@ pub fn untagged_cell(cell: Cell) -> Cell
     }
 }
 
-/// The number over a cell, or 0 if none lies there.
+/// The tag of a cell, or 0 if it has none.
 #[inline]
 pub fn tag_or_zero(cell: Cell) -> u32
     ensures { result ≡ tag_of cell }
@@ -46,7 +46,7 @@ pub fn tag_or_zero(cell: Cell) -> u32
     }
 }
 
-// The number over a cell that has one.
+// The tag of a cell that has one.
 #[inline(always)]
 pub(crate) fn present_tag(cell: Cell) -> u32
     requires { IsTrue (has_tag cell) }
@@ -58,7 +58,7 @@ pub(crate) fn present_tag(cell: Cell) -> u32
     }
 }
 
-// Takes the numbers off the cells.
+// Takes the tags off the cells.
 #[inline(always)]
 pub(crate) fn clear_tags(cells: &mut [Cell])
     ensures { cells.new ≡ map untagged cells.old }

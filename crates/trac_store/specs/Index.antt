@@ -1,4 +1,4 @@
--- A table of forms in the spare list, by which a form is found from its name.
+-- A table of forms in the index area, by which a form is found from its name.
 use Rattle.std.specs.Prelude.{◌≡◌, ◌≢◌, ℕ, ◌+◌, ◌-◌, ◌*◌, ◌/◌, ◌%◌, ◌^◌, ◌<◌}
 use Rattle.std.specs.Prelude.{◌≤◌, Bool, true, false, List, [], ◌∷◌, length, map, take, slice_index_or}
 use Rattle.std.specs.Prelude.{set, bit_and, nat_le, nat_lt, if◌then◌else◌, ◌⊎◌}
@@ -95,7 +95,7 @@ IsIndex table forms =
 abbrev pub IsIndexed : List Cell → List Form → Type 0
 IsIndexed table forms = 0 < length table → IsIndex table forms
 
--- the spare list is as it was, or dropped
+-- the index area is as it was, or dropped
 abbrev pub IsKept : List Cell → List Cell → Type 0
 IsKept was now = (now ≡ was) ⊎ (now ≡ [])
 

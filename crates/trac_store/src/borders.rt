@@ -1,6 +1,6 @@
 //! Searches for a text in one pass, by the method of Knuth, Morris and Pratt. A border of a beginning of
 //! the text is a shorter beginning that also ends it; where the text doesn't go on, the search goes on
-//! from the border. The lengths of the borders lie over the cells of the text while the search runs.
+//! from the border. The lengths of the borders are tags of the text's cells while the search runs.
 ghost use Rattle.std.specs.Prelude.{◌≡◌, ◌≤◌, ◌<◌, ◌-◌, length, MatchOption};
 ghost use Rattle.trac_store.specs.Borders.{tagged_text, HaveBorders, AreTagged, IsNextBorder};
 ghost use Rattle.trac_store.specs.Gaps.{text_cells_at};
@@ -30,7 +30,7 @@ fn next_border(text: &[Cell], before: u32, cell: Cell) -> u32
 }
 
 // The first place at `from` or after where the text stands among the cells. None if there is none. The
-// borders of the text lie over it.
+// borders of the text are its tags.
 pub(crate) fn first_place(cells: &[Cell], from: u32, text: &[Cell]) -> Option<u32>
     requires within { from ≤ length cells.now }
     requires bounded { length cells.now ≤ 16777216 }

@@ -23,7 +23,7 @@ pub(crate) fn is_same_byte(cell: Cell, byte: Cell) -> bool
 }
 
 // The first place in a part of the store where the text stands. None if there is none. The borders of the
-// text lie over it.
+// text are its tags.
 fn next_place(space: &Space, body: Part, text: Part) -> Option<u32>
     requires body { IsPart space.now.store body.from body.to }
     requires text { IsTaggedText space.now.neutral text.from text.to }
@@ -44,7 +44,7 @@ fn next_place(space: &Space, body: Part, text: Part) -> Option<u32>
 }
 
 // Replaces each occurrence of the text in a part of the store by a gap, and gives the new end of the
-// part. The borders of the text lie over it.
+// part. The borders of the text are its tags.
 fn make_gaps(space: &mut Space, body: Part, text: Part, ordinal: u32) -> u32
     requires body { IsPart space.old.store body.from body.to }
     requires text { IsTaggedText space.old.neutral text.from text.to }

@@ -15,7 +15,7 @@ use trac_space::{Part, Space};
 /// Copies items of the store to the front of active, each gap k replaced by argument k: the k-th, from 1,
 /// of the texts between the comma marks of a part of neutral, or nothing if there is no such text (Mooers
 /// 1966). No comma mark stands in that part from place `no_comma_from` on. Gives how many characters the copy has.
-/// None if it doesn't fit; then at most the spare list has been dropped.
+/// None if it doesn't fit; then at most the index area has been dropped.
 #[inline(always)]
 pub fn fill_items(space: &mut Space, items: Part, texts: Part, no_comma_from: u32) -> Option<u32>
     requires order { items.from ≤ items.to }
@@ -70,7 +70,7 @@ fn load_items(space: &mut Space, items: Part) -> Option<u32>
     }
 }
 
-// Does what `load_items` does where the items don't fit beside the spare list.
+// Does what `load_items` does where the items don't fit beside the index area.
 #[inline(never)]
 fn load_items_over_index(space: &mut Space, items: Part) -> Option<u32>
     requires order { items.from ≤ items.to }
@@ -90,7 +90,7 @@ fn load_items_over_index(space: &mut Space, items: Part) -> Option<u32>
 }
 
 // Does what `fill_items` does where gaps may be among the items. Meanwhile the places of the comma marks
-// lie over the texts.
+// are tags of the texts.
 #[inline(never)]
 fn fill_gaps(space: &mut Space, items: Part, texts: Part, no_comma_from: u32) -> Option<u32>
     requires order { items.from ≤ items.to }
@@ -121,7 +121,7 @@ fn fill_gaps(space: &mut Space, items: Part, texts: Part, no_comma_from: u32) ->
 
 // Copies items of the store to the front of active, each gap k replaced by argument k: the k-th part, from
 // 1, of the given cells of neutral, over which the places of their `commas` comma marks lie. Gives how many
-// cells the copy has, None if it doesn't fit. Drops the spare list if the copy doesn't fit beside it.
+// cells the copy has, None if it doesn't fit. Drops the index area if the copy doesn't fit beside it.
 #[inline(always)]
 fn load_filled(space: &mut Space, items: Part, given: Part, commas: u32) -> Option<u32>
     requires order { items.from ≤ items.to }

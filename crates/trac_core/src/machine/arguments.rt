@@ -53,8 +53,8 @@ fn performed_count(work: &Work, no_comma_from: u32) -> u32
     }
 }
 
-/// An argument of the call that a step over these contents performs, the name being argument 0. From the plain place on
-/// no comma mark stands in the neutral string.
+/// An argument of the call that a step over these contents performs, the name being argument 0. From place
+/// `no_comma_from` on no comma mark stands in the neutral string.
 fn performed_argument<'w>(work: &'w Work, no_comma_from: u32, which: u32) -> Option<&'w [Cell]>
     requires { HasNoCommaFrom no_comma_from work.now.neutral }
     ensures argument { (meta : ℕ) → let texts = performed_texts (memory_of meta work.now) in MatchOption result

@@ -33,8 +33,8 @@ impl<'a> Space<'a> {
 
     /// Copies the cells of the store from place `a` up to `b` to the front of active, each gap k replaced
     /// by argument k: the k-th part, from 1, between the comma marks of neutral from place `first` up to
-    /// `end`. These are `commas` marks, whose places `tag_commas` laid there. Gives how many cells these
-    /// are. None, with nothing changed, if the copy doesn't fit beside the spare list.
+    /// `end`. These are `commas` marks, whose places `tag_commas` put there as tags. Gives how many cells these
+    /// are. None, with nothing changed, if the copy doesn't fit beside the index area.
     #[inline(always)]
     pub fn load_filled(&mut self, a: u32, b: u32, first: u32, end: u32, commas: u32) -> Option<u32>
         requires order { a ≤ b }
@@ -98,7 +98,7 @@ impl<'a> Space<'a> {
         true
     }
 
-    /// Puts the bytes of `text` in front of active. They must fit beside the spare list.
+    /// Puts the bytes of `text` in front of active. They must fit beside the index area.
     #[inline]
     pub fn load_bytes(&mut self, text: &[u8])
         requires { FitsBesideIndex (length text.now) self.old }
@@ -127,7 +127,7 @@ impl<'a> Space<'a> {
     }
 
     /// Copies the cells of neutral from place `a` up to `b` to the front of active. They must fit beside
-    /// the spare list.
+    /// the index area.
     #[inline(always)]
     pub fn load_from_neutral(&mut self, a: u32, b: u32)
         requires order { a ≤ b }
@@ -144,7 +144,7 @@ impl<'a> Space<'a> {
     }
 
     /// Copies the cells of the store from place `a` up to `b` to the front of active. They must fit beside
-    /// the spare list.
+    /// the index area.
     #[inline(always)]
     pub fn load_from_store(&mut self, a: u32, b: u32)
         requires order { a ≤ b }
@@ -161,7 +161,7 @@ impl<'a> Space<'a> {
     }
 
     /// Copies the cells of the store from place `a` up to `b` to the front of active if all of them are
-    /// characters. False, with nothing changed, if one isn't. They must fit beside the spare list.
+    /// characters. False, with nothing changed, if one isn't. They must fit beside the index area.
     #[inline(always)]
     pub fn load_characters(&mut self, a: u32, b: u32) -> bool
         requires order { a ≤ b }

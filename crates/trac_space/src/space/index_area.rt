@@ -1,4 +1,4 @@
-//! The spare list, and the free cells beside it.
+//! The index area, and the free cells beside it.
 ghost use Rattle.std.specs.Prelude.{◌≡◌, ◌+◌, ◌-◌, ◌≤◌, ◌<◌, ◌↔◌, [], length, map, slice_set};
 ghost use Rattle.std.specs.Prelude.{IsTrue, true, false, replicate};
 ghost use Rattle.std.specs.Bool.{OnTrue, OnFalse};
@@ -13,7 +13,7 @@ use crate::cell::Cell;
 use crate::copies::copy_cells;
 
 impl<'a> Space<'a> {
-    /// How many cells are free beside the spare list.
+    /// How many cells are free beside the index area.
     #[inline]
     pub fn free_beside_index(&self) -> u32
         ensures { result + used self.now + length self.now.index_area ≡ self.now.room }
@@ -21,7 +21,7 @@ impl<'a> Space<'a> {
         self.end - (self.store + self.neutral + self.active)
     }
 
-    // Whether `n` more cells fit. Drops the spare list if the cells fit only without it.
+    // Whether `n` more cells fit. Drops the index area if the cells fit only without it.
     #[inline]
     pub(super) fn try_reserve(&mut self, n: usize) -> bool
         ensures has { IsTrue result ↔ (used self.old + n ≤ self.old.room) }
@@ -32,7 +32,7 @@ impl<'a> Space<'a> {
         n <= self.free_beside_index() as usize || self.try_reserve_without_index(n)
     }
 
-    // Whether `n` more cells fit, which are too many beside the spare list. Drops the list if they fit.
+    // Whether `n` more cells fit, which are too many beside the index area. Drops the list if they fit.
     #[inline(never)]
     pub(super) fn try_reserve_without_index(&mut self, n: usize) -> bool
         requires { self.old.room < used self.old + n + length self.old.index_area }
@@ -47,7 +47,7 @@ impl<'a> Space<'a> {
         true
     }
 
-    /// Drops the spare list if `n` more cells fit only without it; no answer depends on it. The cells must
+    /// Drops the index area if `n` more cells fit only without it; no answer depends on it. The cells must
     /// fit.
     #[inline]
     pub fn reserve(&mut self, n: u32)
@@ -60,7 +60,7 @@ impl<'a> Space<'a> {
         }
     }
 
-    /// How many cells the spare list has.
+    /// How many cells the index area has.
     #[inline]
     pub fn index_area_len(&self) -> u32
         ensures value { result ≡ length self.now.index_area }
@@ -69,7 +69,7 @@ impl<'a> Space<'a> {
         self.room() - self.end
     }
 
-    /// The cells of the spare list, not copied.
+    /// The cells of the index area, not copied.
     #[inline]
     pub fn index_area_cells(&self) -> &[Cell]
         ensures value { map seen result.now ≡ self.now.index_area }
@@ -78,7 +78,7 @@ impl<'a> Space<'a> {
         &self.cells[self.end as usize..]
     }
 
-    /// Replaces the cell at place `i` of the spare list.
+    /// Replaces the cell at place `i` of the index area.
     #[inline]
     pub fn set_index_area_at(&mut self, i: u32, cell: Cell)
         requires { i < length self.old.index_area }
@@ -87,7 +87,7 @@ impl<'a> Space<'a> {
         self.cells[(self.end + i) as usize] = cell;
     }
 
-    /// Replaces the spare list by one of `n` cells, each the byte 0. The cells must be free.
+    /// Replaces the index area by one of `n` cells, each the byte 0. The cells must be free.
     pub fn take_index_area(&mut self, n: u32)
         requires { used self.old + n ≤ self.old.room }
         ensures { self.new ≡ record self.old { index_area = replicate n (Byte 0) } }
@@ -96,7 +96,7 @@ impl<'a> Space<'a> {
         self.blank_index_area();
     }
 
-    /// Makes each cell of the spare list the byte 0.
+    /// Makes each cell of the index area the byte 0.
     pub fn blank_index_area(&mut self)
         ensures { self.new ≡ record self.old {
           index_area = replicate (length self.old.index_area) (Byte 0);
@@ -106,7 +106,7 @@ impl<'a> Space<'a> {
         blank(&mut self.cells[start..]);
     }
 
-    /// Drops the spare list.
+    /// Drops the index area.
     #[inline(never)]
     pub fn drop_index_area(&mut self)
         ensures { self.new ≡ record self.old { index_area = [] } }
@@ -116,7 +116,7 @@ impl<'a> Space<'a> {
         self.move_active(0);
     }
 
-    // Moves active so that `n` cells stand behind it. They are the spare list, and unspecified.
+    // Moves active so that `n` cells stand behind it. They are the index area, and unspecified.
     fn move_active(&mut self, n: u32)
         requires { used self.old + n ≤ self.old.room }
         ensures same { self.new ≡ record self.old { index_area = self.new.index_area } }

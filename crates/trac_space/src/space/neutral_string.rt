@@ -36,7 +36,7 @@ impl<'a> Space<'a> {
         true
     }
 
-    // Appends a cell to neutral where no cell is free beside the spare list, which is dropped for it. False,
+    // Appends a cell to neutral where no cell is free beside the index area, which is dropped for it. False,
     // with nothing changed, if no cell is free at all.
     #[inline(never)]
     fn push_over_index(&mut self, cell: Cell) -> bool
@@ -55,7 +55,7 @@ impl<'a> Space<'a> {
         true
     }
 
-    /// Appends a cell to neutral. A cell must be free beside the spare list.
+    /// Appends a cell to neutral. A cell must be free beside the index area.
     #[inline]
     pub fn put_neutral(&mut self, cell: Cell)
         requires { FitsBesideIndex 1 self.old }
@@ -68,7 +68,7 @@ impl<'a> Space<'a> {
         self.neutral = place + 1;
     }
 
-    /// Appends cells to neutral. They must fit beside the spare list.
+    /// Appends cells to neutral. They must fit beside the index area.
     #[inline(always)]
     pub fn put_cells(&mut self, cells: &[Cell])
         requires { FitsBesideIndex (length cells.now) self.old }
@@ -96,7 +96,7 @@ impl<'a> Space<'a> {
         true
     }
 
-    // Appends the bytes of `text` to neutral. They must fit beside the spare list.
+    // Appends the bytes of `text` to neutral. They must fit beside the index area.
     #[inline]
     fn put_bytes(&mut self, text: &[u8])
         requires { FitsBesideIndex (length text.now) self.old }
@@ -146,7 +146,7 @@ impl<'a> Space<'a> {
         true
     }
 
-    // Copies the cells of neutral from place `a` up to `b` to its end. They must fit beside the spare list.
+    // Copies the cells of neutral from place `a` up to `b` to its end. They must fit beside the index area.
     #[inline]
     fn put_from_neutral(&mut self, a: u32, b: u32)
         requires order { a ≤ b }
@@ -184,7 +184,7 @@ impl<'a> Space<'a> {
     }
 
     // Copies the cells of the store from place `a` up to `b` to the end of neutral. They must fit beside the
-    // spare list.
+    // index area.
     #[inline]
     fn put_from_store(&mut self, a: u32, b: u32)
         requires order { a ≤ b }
@@ -200,7 +200,7 @@ impl<'a> Space<'a> {
         self.neutral += b - a;
     }
 
-    /// Lays the places of the comma marks of neutral from place `first` up to `end` over the first cells
+    /// Puts the places of the comma marks of neutral from place `first` up to `end` as tags on the first cells
     /// there, and gives how many they are. None stands from place `no_comma_from` up to `end`. `clear_neutral_tags`
     /// takes them off again.
     #[inline(always)]
@@ -229,7 +229,7 @@ impl<'a> Space<'a> {
         self.cells[(self.store + i) as usize] = cell;
     }
 
-    /// Takes the numbers that lie over the cells of neutral from place `a` up to `b` off them.
+    /// Takes the tags off the cells of neutral from place `a` up to `b`.
     #[inline(always)]
     pub fn clear_neutral_tags(&mut self, a: u32, b: u32)
         requires order { a ≤ b }

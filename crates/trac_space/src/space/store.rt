@@ -10,7 +10,7 @@ use crate::cell::Cell;
 use crate::copies::{LOWER, copy_apart, copy_cells, copy_higher};
 
 impl<'a> Space<'a> {
-    /// Appends `n` cells to the store, which are unspecified. They must fit beside the spare list.
+    /// Appends `n` cells to the store, which are unspecified. They must fit beside the index area.
     #[inline(always)]
     pub fn open_store(&mut self, n: u32)
         requires { FitsBesideIndex n self.old }
