@@ -83,7 +83,7 @@ returns-clause-makes c = λ name.
     (valued-of Identity (name ∷ ts) w.forms w.forms _ false
     (λ meta input. ap (λ t. valued t (world w.forms meta input)) (sym c.next-value.ensures.text)) (λ _. refl))
 '''),
-    ('crates/trac_table_laws/proofs/Values.antt', 'few function.Equal',
+    ('crates/trac_laws/proofs/Values.antt', 'few function.Equal',
      'few function.Identity args w n e = of-count 1 n (Few function.Identity args w) e '
      '(rw (argument-take args 1 2 (omega arith)) refl)\n'),
     ('crates/trac_events/src/source.rt', '        Function::Equal =>',
@@ -205,7 +205,7 @@ def main():
         for name in ('trac_language', 'trac_functions'):
             run(os.path.join(place, 'crates', name), 'rt', 'fmt')
         run(place, sys.executable, 'conformance/statements.py')
-        for name in ('trac_table_laws', 'trac_laws', 'trac_tracer'):
+        for name in ('trac_laws', 'trac_tracer'):
             run(place, sys.executable, 'checks/progress.py', name, 'rt', 'check')
         run(place, 'make', 'generate')
         run(place, 'make', 'rust', 'editors', 'all', 'page', 'npm')

@@ -24,15 +24,15 @@ mod cells {
 mod checker {
     use trac_t64::{Sink, SinkFailed};
 
-    pub(crate) struct Unkept;
+    pub(crate) struct NullSink;
 
-    impl Unkept {
-        pub(crate) fn new() -> Unkept {
-            Unkept
+    impl NullSink {
+        pub(crate) fn new() -> NullSink {
+            NullSink
         }
     }
 
-    impl Sink for Unkept {
+    impl Sink for NullSink {
         fn put(&mut self, _byte: u8) -> Result<(), SinkFailed> {
             Ok(())
         }

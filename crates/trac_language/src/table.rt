@@ -1,5 +1,5 @@
 //! The table of functions: one row for each, with what must be known of it outside its definition. That the rows are
-//! true of what the functions mean is proved in `trac_table_laws`.
+//! true of what the functions mean is proved in `trac_laws`.
 ghost use Rattle.std.specs.Prelude.{◌≡◌, ◌∷◌, [], Some, length, option_map, slice_get};
 ghost use Rattle.trac_language.specs.Function.{function_named, functions, look_up};
 ghost use Rattle.trac_language.specs.Table.{name_of, traits};

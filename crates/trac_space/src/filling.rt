@@ -5,7 +5,8 @@ ghost use Rattle.std.specs.Prelude.{map, slice_range, slice_index_or, suc};
 ghost use Rattle.std.specs.List.{copy_within};
 ghost use Rattle.trac_space.specs.declared.cell.Cell.TheVariants.{Comma};
 ghost use Rattle.trac_space.specs.Cells.{NoComma};
-ghost use Rattle.trac_space.specs.Filled.{IsArgumentTable, table_cells, ordinal_of, part_between, filling, filled, HaveCommas};
+ghost use Rattle.trac_space.specs.Filled.{IsArgumentTable, table_cells, ordinal_of, part_between};
+ghost use Rattle.trac_space.specs.Filled.{filling, filled, HaveCommas};
 ghost use Rattle.trac_space.specs.Filled.{IsPut, parts_at, numbered_part};
 ghost use Rattle.trac_space.specs.Tags.{takes_tag, untagged};
 

@@ -172,7 +172,8 @@ fn look_at_place<A: Allocator + Copy>(
     ensures kept { Kept warnings.old.items warnings.new.items }
     ensures said { OnOk result (Warns warnings.old.items warnings.new.items
         (spelled_at (spelling_of text.now) is_reported is_behind_sign place text.now)) }
-    ensures reported { IfOk result (λ reported. reported ≡ reported_behind (spelling_of text.now) is_reported (get_or text.now 0 0)) }
+    ensures reported { IfOk result (λ reported. reported ≡
+        reported_behind (spelling_of text.now) is_reported (get_or text.now 0 0)) }
 {
     if let Some(suspicion) = spelling_of(text) {
         warn_at(warnings, alloc, suspicion, place, &[])?;

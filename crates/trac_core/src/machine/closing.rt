@@ -33,8 +33,8 @@ pub(crate) fn closed_call(work: &Work) -> Option<u32>
     }
 }
 
-/// The arguments of the innermost call, whose mark stands at the place, the name first. From place `no_comma_from` on no
-/// comma mark stands in the neutral string.
+/// The arguments of the innermost call, whose mark stands at the place, the name first. From place
+/// `no_comma_from` on no comma mark stands in the neutral string.
 pub(super) fn arguments_at(work: &Work, place: u32, no_comma_from: u32) -> Arguments
     requires innermost { IsLastCall work.now.neutral place }
     requires no_comma_from { HasNoCommaFrom no_comma_from work.now.neutral }
