@@ -121,7 +121,7 @@ module _ {M : Type 1} {𝓤 : Ura M} (𝓛 : Logic 𝓤) where
         walk κs qs a.1 m are.1 b o))
 
 module _ {M : Type 1} {𝓤 : Ura M} {𝓛 : Logic 𝓤} {K : Type 0} where
-  -- what is owed at the end: the tokens, the result, what says the last values, and what the contract ensures, which is fresh_machine of one item
+  -- what is owed at the end: the tokens, the result, what says the last values, and what the contract ensures, which is made of one item
   pub gives : K → (T : Ended) (c : Clauses 𝓤 T) (κs : Lfts T.signature.lifetimes) (qs : Shares T.signature.lifetimes) (a : Args T.signature κs) (g : (c κs a).ghost) (v : Val) (r : Res T.signature κs) (ws : Lasts T κs a) {X : Item 𝓤} → ent 𝓤 (mean 𝓛 X) ((c κs a).ensures g r (at_exit T κs a ws))
       → Seq K 𝓛 (‵ ((type_at T.signature.result κs).own_val r (v ∷ [])) ∷ X ∷ ‵ (lasts T κs a ws) ∷ raw (alive 𝓛 T.signature κs qs) ∷ []) (prop (Owed 𝓛 T c κs qs a g v))
   gives t T c κs qs a g v r ws {X} ensures =
@@ -130,7 +130,7 @@ module _ {M : Type 1} {𝓤 : Ura M} {𝓛 : Logic 𝓤} {K : Type 0} where
       move t (1 ∷ []) $ frame t $ by t ensures
 
 module _ {M : Type 1} {𝓤 : Ura M} {𝓛 : Logic 𝓤} {K : Type 0} {Γ : List (Item 𝓤)} where
-  -- a call to which that machine is lent, for a lifetime that is fresh_machine for the call: it is had again, as the call leaves it, once that is ended
+  -- a call to which that machine is lent, for a lifetime that is made for the call: it is had again, as the call leaves it, once that is ended
   pub lends : K → {C : Calls 𝓤 𝓛.H} {Λ : Loops 𝓤 𝓛.H} → FmC 𝓤 𝓛.H 𝓛.laws C → {E : Env 𝓤 𝓛.H} {q : Post 𝓤 𝓛.H} {g : Callee} {xs : List Operand} {d : Place} {rest : Code} (b o : ℕ) (m : MachineState) (Rest : Fml) (tokens : Item 𝓤) (T : RattleType) → Lawful 𝓛 T → (Z : Type 0) (Last : Z → Fml) (Says : T.Denot → MachineState → Z → Type 0) (c : Contract 𝓤) → Triple 𝓤 (C g) c → (x : (α γ : ℕ) → c.Ghost)
       → ((α γ : ℕ) → ent 𝓤 (mean 𝓛 (((‵ (flft (α ∷ []) full_share) ⊛ tokens) ⊛ ‵ (fsep ((MutRef (named 0) (α ∷ []) machine).own_val (lent_as b o γ m) (vptr b o ∷ [])) Rest)) ⊛ ‵ ftrue)) (c.pre (x α γ)))
       → ((α γ : ℕ) (v : Val) → ent 𝓤 (c.post (x α γ) v) (mean 𝓛 (later (some (λ (r : T.Denot). ((‵ (flft (α ∷ []) full_share) ⊛ tokens) ⊛ ‵ (T.own_val r (v ∷ []))) ⊛ some (λ (zs : MachineState × Z). ‵ (fsep (fsep (fres γ (machine.coded.code zs.0)) (fbor (α ∷ []) (Body (mem machine) b o γ))) (Last zs.1)) ⊛ raw (fact 𝓤 (Says r zs.0 zs.1))))))))

@@ -7,7 +7,7 @@ use Rattle.trac_core.specs.Machine.{MachineState}
 use Rattle.trac_core.specs.Changing.{HasRoomFor, IsDefinable, IsNamedAt, given, items_of_codes}
 use Rattle.trac_core.specs.Changing.{with_form, with_forms}
 
--- a change that is possible is fresh_machine, with the answer 0; else the answer is 9, and nothing has changed
+-- a change that is possible is made, with the answer 0; else the answer is 9, and nothing has changed
 abbrev pub Answered : Type 0 → (changed old : MachineState) → (answer : ℕ) → MachineState → Type 0
 Answered Possible changed old answer new =
     (Possible × (answer ≡ 0) × (new ≡ changed)) ⊎ ((Possible → ⊥) × (answer ≡ 9) × (new ≡ old))

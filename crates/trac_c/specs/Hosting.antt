@@ -43,7 +43,7 @@ ValueGiven how value old fate new =
     Answered how value (moment old source written) fate (moment new source written)))
 
 -- what `told` says of a value that the host gives: there is no such way to deliver it, or no call that
--- asks for one; or the step was fresh_machine, or ended the run
+-- asks for one; or the step was made, or ended the run
 abbrev pub ValueTold : Option Delivery → Text → MachineState → TracReport → MachineState → Type 0
 ValueTold None value old told new = Refuses old told new
 ValueTold (Some how) value old told new =

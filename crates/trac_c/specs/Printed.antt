@@ -18,7 +18,7 @@ pub record PrintsPast (old new : MachineState) : Type 0 where
       (moment new source (written ++ next_printed old (ending source.bytes)))
   pub going : new.fate ≡ None
 
--- the next step prints nothing, and is not fresh_machine; or it prints, and is fresh_machine without a place for what it prints
+-- the next step prints nothing, and is not made; or it prints, and is made without a place for what it prints
 pub record SkipsPrint (old : MachineState) (told : TracReport) (new : MachineState) : Type 0 where
   pub skips :
       ((next_text old ≡ []) × Refuses old told new)

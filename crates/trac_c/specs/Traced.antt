@@ -76,7 +76,7 @@ abbrev pub answer_number : Option Fate → ℕ
 answer_number None = 0
 answer_number (Some fate) = number fate
 
--- whether a report says that no step was fresh_machine: its turn waits for input, for room, or for the host's value of
+-- whether a report says that no step was made: its turn waits for input, for room, or for the host's value of
 -- a call
 abbrev pub is_waiting : ℕ → Bool
 is_waiting fate = if fate == 7 then true else (if fate == 8 then true else (fate == 11))
@@ -91,7 +91,7 @@ FailsBehind input buffer old told new =
     (moment new left (take told.written buffer)))))
 
 -- a machine makes a step as a turn does, behind whose input more may come (`ended` is 0), the input ends (1) or reading
--- fails (2). Where it fails, and the turn would wait for input, the step is fresh_machine, and ends the run
+-- fails (2). Where it fails, and the turn would wait for input, the step is made, and ends the run
 abbrev pub Stepped : (ended : ℕ) → (input buffer : Text) → (old : MachineState) → TracReport → (new : MachineState)
     → Type 0
 Stepped ended input buffer old told new =
@@ -173,7 +173,7 @@ pub record Tells (trace after : TracTrace) (turn told : TracReport) (done : Step
       ((told ≡ reported turn.fate after.peak turn) × AddsStep trace after done old_lines lines)
       ⊎ ((told ≡ reported 10 after.peak turn) × LosesLines trace after done old_lines lines)
 
--- a machine fresh_machine a step, or waits, and it was told
+-- a machine made a step, or waits, and it was told
 abbrev pub StepTraced : (ended : ℕ) → (input buffer old_lines lines : Text) → (trace : TracTrace)
     → (old : MachineState) → TracReport → (after : TracTrace) → (new : MachineState) → Type 0
 StepTraced ended input buffer old_lines lines trace old told after new =
@@ -182,7 +182,7 @@ StepTraced ended input buffer old_lines lines trace old told after new =
     × ((new ≡ uncounted next)
     × Tells trace after turn told (step_told trace turn buffer old next after) old_lines lines)))
 
--- the lent memory is too small to look at the step: none was fresh_machine
+-- the lent memory is too small to look at the step: none was made
 abbrev pub Unseen : (old_buffer buffer old_lines lines : Text) → (trace : TracTrace) → (old : MachineState)
     → TracReport → (after : TracTrace) → (new : MachineState) → Type 0
 Unseen old_buffer buffer old_lines lines trace old told after new =

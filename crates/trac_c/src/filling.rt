@@ -1,4 +1,4 @@
-//! Buffers of a caller's, filled from the front as far as they reach.
+//! A caller's buffers, filled from the front as far as they reach.
 ghost use Rattle.std.specs.Prelude.{◌≡◌, ◌+◌, ◌<◌, ◌≤◌, [], ◌∷◌, length, min, take};
 ghost use Rattle.std.specs.Prelude.{◌-◌, ◌^◌, ◌++◌, drop};
 ghost use Rattle.trac_c.specs.Held.{buffer_code};

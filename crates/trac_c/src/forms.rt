@@ -21,7 +21,7 @@ use trac_image::put;
 use trac_language::Function;
 use trac_space::character_of;
 
-/// The form at place `k`, from 0, in the order of definition. None where it has no such place.
+/// The form at place `k`, from 0, in the order of definition. None if it has no such place.
 fn form_at<'m>(machine: &'m Machine<'static>, k: usize) -> Option<StoredForm<'m>>
     ensures { result ≡ slice_get machine.now.memory.forms k }
 {
@@ -61,7 +61,7 @@ pub(crate) fn lay_codes(machine: &Machine<'static>, k: usize, room: &mut [u32]) 
     }
 }
 
-/// The pointer of a form, 0 where there is no such form.
+/// The pointer of a form, 0 if there is no such form.
 pub(crate) fn pointer(machine: &Machine<'static>, k: usize) -> usize
     ensures { result ≡ pointer_of (slice_get machine.now.memory.forms k) }
 {

@@ -28,7 +28,7 @@ fn stop_at_unknown(machine: &mut Machine<'static>, stops: u32)
 }
 
 /// Has the machine at a place make its next step, which performs a call whose name is no function, with this value.
-/// `how` is 0 where it goes as the call's mode says, 1 where it is scanned again, 2 where it never is. The report is
+/// `how` is 0 if it goes as the call's mode says, 1 where it is scanned again, 2 where it never is. The report is
 /// that of a turn. Elsewhere, and for another `how`, it is refused, with 9, and nothing has changed.
 #[unsafe(no_mangle)]
 pub unsafe extern "C" fn trac_engine_answer(machine: *mut u64, value: &[u8], how: u32) -> TracReport

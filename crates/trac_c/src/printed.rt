@@ -1,4 +1,4 @@
-//! The step that prints, fresh_machine without a place for what it prints.
+//! The step that prints, made without room for what it prints.
 ghost use Rattle.trac_core.specs.Machine.{MachineState};
 ghost use Rattle.trac_c.specs.Machines.{machine_after, machine_at};
 ghost use Rattle.trac_c.specs.Printed.{SkipsPrint};

@@ -1,4 +1,4 @@
-//! What C is told of a run.
+//! What C learns about a run.
 ghost use Rattle.std.specs.Prelude.{◌≡◌};
 ghost use Rattle.trac_c.specs.Checked.{no_memory};
 ghost use Rattle.trac_c.specs.Reports.{number, refused};
@@ -56,7 +56,7 @@ pub(crate) fn number(fate: Fate) -> u32
     }
 }
 
-/// The number of an answer of a step: 0 where the run goes on.
+/// The number of an answer of a step: 0 if the run goes on.
 pub(crate) fn answer_number(answer: Option<Fate>) -> u32
     ensures { result ≡ answer_number answer }
 {

@@ -37,11 +37,11 @@ pub struct TracTrace {
     pub forms: u32,
     /// The last step of which something was shown; 0 if there is none.
     pub shown: u64,
-    /// How many bytes the lines have that were told last.
+    /// How many bytes the last lines have.
     pub lines: u64,
     /// The greatest need of a step so far, in cells.
     pub peak: u32,
-    /// Whether lines of the run were told before: not 0.
+    /// Whether there were lines of the run before: not 0.
     pub begun: u32,
     /// How many calls are open.
     pub depth: u64,
@@ -100,7 +100,7 @@ impl TracTrace {
         }
     }
 
-    /// The line above all others, before it was told.
+    /// The state before the head, the line above all others.
     fn head(&self) -> &'static [u8]
         ensures { result.now ≡ head_of self.now }
     {
@@ -275,14 +275,14 @@ fn reported(turn: &TracReport, fate: u32, peak: u32) -> TracReport
     }
 }
 
-/// Lines that were added: how many bytes they have, and the last step of which something was shown.
+/// Lines that were shown: how many bytes they have, and the last step of which something was shown.
 #[derive(Clone, Copy)]
 struct Lines {
     bytes: u64,
     step: u64,
 }
 
-/// Puts the lines of a step that was added, and those on the end of the run where that is over, to the front of a
+/// Puts the lines of a step that was made, and those on the end of the run where that is over, to the front of a
 /// buffer. Fails only if memory runs out, or ran out before, and then the buffer stays as it is.
 fn lay_lines<A: Allocator + Copy>(
     alloc: A,
@@ -321,7 +321,7 @@ fn lay_lines<A: Allocator + Copy>(
     })
 }
 
-/// Whether a report says that no step was fresh_machine.
+/// Whether a report says that no step was made.
 fn is_waiting(fate: u32) -> bool
     ensures { result ≡ is_waiting fate }
 {

@@ -33,7 +33,7 @@ pub unsafe extern "C" fn trac_engine_form_count(machine: *mut u64) -> usize
 }
 
 /// The length of the name of form `k`, from 0, in the order of definition; the name goes to the
-/// front of `to`, as much of it as fits. Where there is no such form, 0, and `to` stays as it is.
+/// front of `to`, as much of it as fits. If there is no such form, the answer is 0 and `to` stays as it is.
 #[unsafe(no_mangle)]
 pub unsafe extern "C" fn trac_engine_form_name(machine: *mut u64, k: usize, to: &mut [u8]) -> usize
     ghost held: { MachineState }
@@ -74,7 +74,7 @@ pub unsafe extern "C" fn trac_engine_form_codes(
     lay_codes(&*(machine as *const Machine<'static>), k, to)
 }
 
-/// How many items of form `k` stand in front of its pointer, 0 where there is no such form.
+/// How many items of form `k` stand in front of its pointer, 0 if there is no such form.
 #[unsafe(no_mangle)]
 pub unsafe extern "C" fn trac_engine_form_pointer(machine: *mut u64, k: usize) -> usize
     ghost held: { MachineState }
@@ -130,7 +130,7 @@ pub unsafe extern "C" fn trac_engine_calls(machine: *mut u64, to: &mut [u32]) ->
     strings::lay_calls(&*(machine as *const Machine<'static>), to)
 }
 
-/// How many arguments the call has that the next step performs, its name counted; 0 where it performs no call, where
+/// How many arguments the call has that the next step performs, its name counted; 0 if it performs no call, where
 /// the run is over, and where the allowance is used up.
 #[unsafe(no_mangle)]
 pub unsafe extern "C" fn trac_engine_argument_count(machine: *mut u64) -> usize
@@ -142,7 +142,7 @@ pub unsafe extern "C" fn trac_engine_argument_count(machine: *mut u64) -> usize
 }
 
 /// The length of argument `which` of the call that the next step performs, the name being argument 0; the argument goes
-/// to the front of `to`, as much of it as fits. Where there is no such argument, 0, and `to` stays as it is.
+/// to the front of `to`, as much of it as fits. If there is no such argument, the answer is 0 and `to` stays as it is.
 #[unsafe(no_mangle)]
 pub unsafe extern "C" fn trac_engine_argument(
     machine: *mut u64,

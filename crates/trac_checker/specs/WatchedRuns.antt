@@ -14,7 +14,7 @@ use Rattle.trac_warnings.specs.declared.watch.Watch.{Watch}
 use Rattle.trac_checker.specs.FoundSoFar.{FoundSoFar, found_in_script, with_all, with_names}
 use Rattle.trac_checker.specs.Warned.{Found, names_of}
 
--- a watch looked at a machine before a step, and judged of the machine after it; `A` is where its lists are
+-- a watch looked at a machine before a step, and told of the machine after it; `A` is where its lists are
 pub record Watches
     {A : Type 0} (input : Text) (old new : MachineState) (watch judged : Watch A)
     : Type 0 where
@@ -64,7 +64,7 @@ abbrev pub not_begun : {A : Type 0} → Text → Moment → Watch A → WatchedS
 not_begun input start watch = record { at = start; watch = watch; found = found_in_script input }
 
 -- the definition's run in `room` cells and with at most `allowance` steps, over a source with the bytes `old`, was
--- watched: `input` is the script whose places are judged, `names` are those of the forms that were defined, and `found`
+-- watched: `input` is the script whose places are told, `names` are those of the forms that were defined, and `found`
 -- is what was found, in the run, in how the script is written, and in the names of its calls
 pub record WatchesRun
     (A : Type 0) (input : Text) (room allowance : ℕ) (old new : Stream) (names : List Text) (found : Found)

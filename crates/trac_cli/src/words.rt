@@ -11,7 +11,7 @@ use trac_command::Settings;
 
 /// Reads the settings from the program's words, its name first: `trac [--cells N] [--steps N]
 /// [--report]`. The defaults are 65536 cells, 1000000 steps and no report. The error is clap's: for words
-/// that it refuses, for help, or for want of memory. The command is this processor's own choice.
+/// that it refuses, for help, or for lack of memory. The command is this processor's own choice.
 pub fn settings_from(alloc: Global, words: Vec<String>) -> Result<Settings, Error>
     ensures taken { let texts = map string_bytes words.items in
         IfOk result (AreValuesOf true (matches_of trac_command texts)) }

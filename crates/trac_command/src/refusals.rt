@@ -56,7 +56,7 @@ pub fn refused<R: Eprint, O: Sink>(
     error_status(kind)
 }
 
-/// The status for a kind of answer of clap: 0 for help, 6 for want of memory, 2 for refused words.
+/// The status for a kind of answer of clap: 0 for help, 6 for lack of memory, 2 for refused words.
 pub fn error_status(kind: ErrorKind) -> u8
     ensures { result ≡ refusal_status kind }
 {

@@ -15,7 +15,7 @@ use std::alloc::{AllocError, Global};
 /// Reads the settings from the words of a program, its name first: `NAME [--cells N] [--steps N]`,
 /// and `[--report]` too for a program that reports. The defaults are 65536 cells, the given number of
 /// steps and no report. The error is clap's: for words that it refuses, as numbers out of range, for help,
-/// or for want of memory. The help and the errors show the usage.
+/// or for lack of memory. The help and the errors show the usage.
 pub fn settings_from(
     alloc: Global,
     name: &str,
@@ -81,7 +81,7 @@ fn command<'a>(
     command.arg(report(alloc))
 }
 
-/// The command `NAME [--cells N] [--steps N]`, to which a program may add. An error is want of memory.
+/// The command `NAME [--cells N] [--steps N]`, to which a program may add. An error is lack of memory.
 pub fn numbers_command<'a>(
     alloc: Global,
     name: &'a str,

@@ -311,7 +311,7 @@ pub no-failure-made : (f : Function) (args : List Text) (scanned : Bool) (w mid 
 no-failure-made f args scanned w mid (Over fate) is = absurd is
 no-failure-made f args scanned w mid _ is = (refl, (refl, λ e. absurd cc))
 
--- what ends the run, or isn't done, was call_result of nothing but too few cells
+-- what ends the run, or isn't done, was made of nothing but too few cells
 pub only-full : (f : Function) (args : List Text) (scanned : Bool) (w mid : Contents) (call_result : CallResult) → Makes f args scanned w call_result mid → fate_after call_result ≢ None → call_result ≡ Full
 only-full f args scanned w mid Full is some = refl
 only-full f args scanned w mid (Over fate) is some = absurd is

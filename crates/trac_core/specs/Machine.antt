@@ -24,7 +24,7 @@ pub record MachineState : Type 0 where
   -- whether turns of it stop before a call whose name is no function
   pub stops : Bool
 
--- a machine that was just fresh_machine
+-- a machine that was just made
 abbrev pub fresh_machine : ℕ → ℕ → MachineState
 fresh_machine room allowance =
     record {

@@ -1,4 +1,4 @@
-//! What a function's answer comes to: the count of what the call needed, and where its value goes.
+//! What follows a function's answer: the count of what the call needed, and where its value goes.
 ghost use Rattle.std.specs.Prelude.{◌≡◌, ◌<◌, ◌≤◌, ◌++◌, length, drop, take, All, if◌then◌else◌};
 ghost use Rattle.trac_space.specs.Calls.{IsLastCall};
 ghost use Rattle.trac_space.specs.Texts.{IsByte};
@@ -14,8 +14,8 @@ use trac_functions::arguments::CallResult;
 use trac_language::{Fate, Mode};
 use trac_space::{Cell, Part};
 
-/// The call that is this part of the neutral string, its mark and its arguments, leaves, and what its
-/// function answered comes to its end: a value that doesn't stand where it belongs is moved there.
+/// Removes the call that is this part of the neutral string, its mark and its arguments, and finishes what
+/// its function began: a value that doesn't stand where it belongs is moved there.
 /// `before` cells were used when the call was performed.
 #[inline(always)]
 pub(crate) fn finish_call(
@@ -54,8 +54,8 @@ pub(crate) fn finish_call(
     StepOutcome { fate, need }
 }
 
-/// The call whose mark stands at the place leaves, and its value, which stands from another place
-/// on, goes before the active string or stays.
+/// Removes the call whose mark stands at the place. Its value, which stands from another place on, goes
+/// before the active string or stays.
 #[inline]
 fn deliver(work: &mut Work, place: u32, from: u32)
     requires order { place < from }
@@ -68,7 +68,7 @@ fn deliver(work: &mut Work, place: u32, from: u32)
     move_value(work, place, from, scanned);
 }
 
-/// The call whose mark stands at the place leaves, and its value, which stands from another place on, goes before
+/// Removes the call whose mark stands at the place. Its value, which stands from another place on, goes before
 /// the active string if it is to be scanned again, and else stays.
 #[inline(always)]
 pub(crate) fn move_value(work: &mut Work, place: u32, from: u32, scanned: bool)

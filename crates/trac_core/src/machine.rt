@@ -115,7 +115,7 @@ impl<'a> Machine<'a> {
     pub fn step<I: Source, O: Sink>(&mut self, source: &mut I, sink: &mut O) -> Option<Fate>
         requires source_counts { I.failure_count source.old < 2 ^ 64 - 1 }
         requires sink_counts { O.failure_count sink.old < 2 ^ 64 - 1 }
-        // what each answer says of the machine, the source and the sink
+        // what each answer says about the machine, the source and the sink
         ensures answers { self.old.fate ≡ None → I.tells source.old → O.tells sink.old →
             Answers (moment self.old (I.stream source.old) (O.written sink.old)) result
             (moment self.new (I.stream source.new) (O.written sink.new)) }
@@ -176,7 +176,7 @@ impl<'a> Machine<'a> {
         self.count(outcome)
     }
 
-    /// Counts a step that came to this, of a run that is not over.
+    /// Counts a step with this outcome, of a run that is not over.
     fn count(&mut self, outcome: StepOutcome) -> Option<Fate>
         requires not_over { self.old.fate ≡ None }
         requires allowed { counts_as_step outcome.fate ≡ true →
@@ -207,9 +207,9 @@ impl<'a> Machine<'a> {
         outcome.fate
     }
 
-    /// Makes steps to the end of the run, and reports what it came to: with neither device failing,
+    /// Makes steps to the end of the run, and reports the result: with neither device failing,
     /// the output, the fate, the steps and the peak of the definition's run in this room with this
-    /// allowance. A machine that was just fresh_machine is run.
+    /// allowance. The machine must be fresh.
     pub fn run<I: Source, O: Sink>(mut self, source: &mut I, sink: &mut O) -> Report
         requires fresh_machine { self ≡ fresh_machine self.room self.allowance }
         requires source_counts { I.failure_count source.old < 2 ^ 64 - 1 }
@@ -234,7 +234,7 @@ impl<'a> Machine<'a> {
     /// Makes steps to the end of the run, as `run` does, from wherever the machine stands, and
     /// leaves it to be looked at: the report has its steps and its peak. With neither device
     /// failing, what is printed, the fate, the steps and the peak are those of the definition's run
-    /// from there. Where the run is over already, the same fate is reported again, and nothing is
+    /// from there. If the run is over already, the same fate is reported again, and nothing is
     /// called.
     pub fn resume<I: Source, O: Sink>(&mut self, source: &mut I, sink: &mut O) -> Report
         requires source_counts { I.failure_count source.old < 2 ^ 64 - 1 }

@@ -178,7 +178,7 @@ fn kinds(cells: &[Cell], i: usize) -> u8
         + kind(&cells[7])
 }
 
-/// What the table says of the character of a cell.
+/// What the table says about the character of a cell.
 #[inline]
 fn kind(cell: &Cell) -> u8
     requires { IsByte cell.now }
@@ -267,7 +267,7 @@ fn sides(cells: &[Cell], i: usize) -> u8
         + side(&cells[7])
 }
 
-/// What that table says of the character of a cell.
+/// What that table says about the character of a cell.
 #[inline]
 fn side(cell: &Cell) -> u8
     requires { IsByte cell.now }

@@ -204,7 +204,7 @@ fn begin_argument(work: &mut Work, most: u64, hints: &mut RunHints) -> u64
 }
 
 /// Adds the ordinary characters and the commas at the front of the active string where a call is
-/// open, at most `most` and at most `MOVED_ONE_BY_ONE`. Gives how many steps these are: 0 where another character
+/// open, at most `most` and at most `MOVED_ONE_BY_ONE`. Gives how many steps these are: 0 if another character
 /// stands there.
 #[inline(always)]
 fn add_run(work: &mut Work, most: u64, hints: &mut RunHints) -> u64
@@ -221,7 +221,7 @@ fn add_run(work: &mut Work, most: u64, hints: &mut RunHints) -> u64
     ensures keeps { KeepsRoom work.old work.new }
 {
     let reach = most.min(u64::from(work.active_len()));
-    // A number that is known makes a shorter loop.
+    // A constant makes a shorter loop.
     if reach >= MOVED_ONE_BY_ONE {
         add_run_within(work, MOVED_ONE_BY_ONE as u32, hints)
     } else {

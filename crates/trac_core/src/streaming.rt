@@ -13,7 +13,7 @@ use trac_space::Cell;
 // How many characters are put one by one.
 const PUT_ONE_BY_ONE: usize = 16;
 
-/// How a text ended that was read.
+/// How the reading of a text ended.
 #[derive(Clone, Copy, Debug, PartialEq, Eq)]
 pub(crate) enum ReadEnd {
     /// The meta character followed, and was consumed.

@@ -115,7 +115,7 @@ fn reads(awaits: Awaits) -> bool
     matches!(awaits, Awaits::Text | Awaits::Byte)
 }
 
-/// How many calls are open after a step is told by the rule that the step follows. Proves this and does
+/// The rule that a step follows determines how many calls are open after it. Proves this and does
 /// nothing.
 pub fn depth_follows()
     ensures { DepthFollows }

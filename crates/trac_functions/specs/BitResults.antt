@@ -1,4 +1,4 @@
--- Results of bits, call_result of octal digits that stand in the neutral string.
+-- Results of bits, made of octal digits that stand in the neutral string.
 use Rattle.std.specs.Prelude.{◌-◌, ◌*◌, ◌<◌, ◌≤◌, List, length, slice_range, pos}
 use Rattle.trac_language.specs.Text.{Text}
 use Rattle.trac_language.specs.BitString.{Bits, octal, union, intersection, complement, shifted}

@@ -167,7 +167,7 @@ pub fn call_form(work: &mut Work, mut arguments: Arguments) -> CallResult
     }
 }
 
-/// The form that the next argument names, None where no form has the name.
+/// The form that the next argument names, None if no form has the name.
 #[inline(always)]
 fn next_form(work: &mut Work, arguments: &mut Arguments) -> Option<FormId>
     requires { AreArguments work.old arguments.old }

@@ -1,7 +1,7 @@
-//! Where a body that stands in an image is read.
+//! The items of a body that stands in an image, read one by one.
 ghost use Rattle.std.specs.Prelude.{◌+◌, ◌≤◌};
 
-/// The items of a body that are still to come, woven of its gaps and its characters.
+/// The items of a body that are still to come, merged from its gaps and its characters.
 #[derive(Clone, Copy)]
 pub(crate) struct ImageBody<'i> {
     /// How many items there are.

@@ -1,7 +1,7 @@
 //! Laws of images. Each function proves one and does nothing.
 ghost use Rattle.trac_image.specs.Laws.{LoadsWhatWasSaved, TellsForms};
 
-/// An image tells all forms of a machine, in their order, with their gaps and pointers, and the meta character: no
+/// An image determines all forms of a machine, in their order, with their gaps and pointers, and the meta character: no
 /// two memories have the same image.
 pub fn image_tells_forms()
     ensures { TellsForms }

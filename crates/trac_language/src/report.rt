@@ -1,8 +1,8 @@
-//! What a run came to.
+//! The result of a run.
 
 use crate::fate::Fate;
 
-/// What a run came to. The accounting of steps and cells is this processor's own choice.
+/// The result of a run. The accounting of steps and cells is this processor's own choice.
 #[derive(Clone, Copy, Debug, PartialEq, Eq)]
 pub struct Report {
     /// How the run ended.

@@ -1,4 +1,4 @@
-//! The table of functions: one row for each, with what must be known of it outside its definition. That the rows are
+//! The table of functions: one row each, with what the rest of the program needs to know about it. That the rows are
 //! true of what the functions mean is proved in `trac_laws`.
 ghost use Rattle.std.specs.Prelude.{◌≡◌, ◌∷◌, [], Some, length, option_map, slice_get};
 ghost use Rattle.trac_language.specs.Function.{function_named, functions, look_up};
@@ -7,7 +7,7 @@ ghost use Rattle.trac_language.specs.Table.{name_of, traits};
 use crate::arith::Arith;
 use crate::function::Function;
 
-/// The functions that a manual tells of together.
+/// The heading under which a manual describes a function.
 #[derive(Clone, Copy, Debug, PartialEq, Eq)]
 pub enum Group {
     /// Input and output, the meta character and the end of a run.
@@ -37,7 +37,7 @@ pub enum Concerned {
     All,
 }
 
-/// What of the form that it names a call gives as its value.
+/// How much of the form that it names is the value of a call.
 #[derive(Clone, Copy, Debug, PartialEq, Eq)]
 pub enum Given {
     /// Nothing.
@@ -48,7 +48,7 @@ pub enum Given {
     Part,
 }
 
-/// What a function makes of its arguments and of the machine, as far as it can be said of all its calls.
+/// What holds for every call of a function: how it uses its arguments, and what of the machine it can change.
 #[derive(Clone, Copy)]
 pub struct Traits {
     /// How many arguments behind its name it uses. None if it uses all of them.
@@ -87,9 +87,9 @@ pub struct Facts {
     pub title: &'static [u8],
     /// What it does, in one sentence that speaks of the letters of `call`.
     pub sentence: &'static [u8],
-    /// Where a manual tells of it.
+    /// The heading under which a manual describes it.
     pub group: Group,
-    /// What it makes of its arguments and of the machine.
+    /// What holds for each of its calls.
     pub traits: Traits,
 }
 
@@ -504,7 +504,7 @@ pub fn function_count() -> usize
     FUNCTIONS.len()
 }
 
-/// Function `k`, from 0. None where there are fewer.
+/// Function `k`, from 0. None if there are fewer.
 pub fn function_at(k: usize) -> Option<Function>
     ensures { result ≡ option_map (λ entry. entry.1) (slice_get functions k) }
 {

@@ -44,7 +44,7 @@ impl<R: Read> Read for Recording<'_, R> {
         ensures bound { ReadsAtMost result buf.new }
         ensures bytes { ReadConsumes (R.remaining self.old.reader) (R.remaining self.new.reader)
             result buf.new }
-        // what was read is kept, unless memory runs out, which is then told
+        // what was read is kept; if memory runs out, `is_whole` says so
         ensures kept { MatchResult result
             (λ count. KeepsRead (take count buf.new) self.old.record.now self.new.record.now)
             (λ _. self.new.record.now ≡ self.old.record.now) }

@@ -46,7 +46,7 @@ impl Progress {
     }
 }
 
-/// The lines of the views of a run, and what they are fresh_machine from.
+/// The lines of the views of a run, and what they are made from.
 #[derive(Drop)]
 pub struct Shown<A: Allocator> {
     alloc: A,
@@ -359,7 +359,7 @@ fn touched_of(named: &Named) -> Concerned
     }
 }
 
-// Adds the form of this name, where the call can have fresh_machine or changed it.
+// Adds the form of this name, where the call can have made or changed it.
 fn push_touched<A: Allocator + Copy>(
     text: &mut Vec<u8, A>,
     alloc: A,

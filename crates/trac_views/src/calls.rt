@@ -95,7 +95,7 @@ fn push_blanks<A: Allocator>(line: &mut Vec<u8, A>, depth: usize) -> Result<(), 
     push(line, b"  ")
 }
 
-// Adds the value, what was printed, and the form that was made or changed, as far as there are any.
+// Adds the value, what was printed, and the form that was made or changed, if there are any.
 fn push_results<A: Allocator + Copy>(
     line: &mut Vec<u8, A>,
     alloc: A,

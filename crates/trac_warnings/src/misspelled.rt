@@ -12,9 +12,9 @@ use std::alloc::{AllocError, Allocator};
 use trac_functions::function::function_named;
 use trac_space::Cell;
 
-/// Adds the calls in a script whose names no function has, and are nearly those of functions. They are worth a word
-/// if they were never performed: an unknown name in a call that is performed is told then. Fails only if memory runs
-/// out.
+/// Adds the calls in a script whose names no function has, and are nearly those of functions. They are for calls
+/// that were never performed: an unknown name in a call that is performed is warned of then. Fails only if memory
+/// runs out.
 #[tactic(auto, using(crate::proofs::Keeping::keeping))]
 pub fn look_at_names<A: Allocator + Copy>(
     warnings: &mut Vec<Warning<A>, A>,

@@ -21,7 +21,7 @@ use trac_language::{Fate, Function, Report};
 pub struct Progress {
     /// The steps that were done and after which the run went on.
     pub done: u64,
-    /// The function of the call that it stopped before, which reads or prints. `None` where it stopped
+    /// The function of the call that it stopped before, which reads or prints. `None` if it stopped
     /// before a call of no function, or for another reason.
     pub next: Option<Function>,
 }
@@ -185,7 +185,7 @@ fn go_on<I, O, P: Performer<I, O>>(
     going(reach, None, hints, at.steps, peak)
 }
 
-/// `done` steps, behind which the run is over with this report.
+/// The advance of `done` steps, after which the run is over with this report.
 fn over(done: u64, no_comma_from: u32, report: Report) -> Advance
     ensures { result ≡ record {
       progress = record { done = done; next = None };
@@ -204,7 +204,7 @@ fn over(done: u64, no_comma_from: u32, report: Report) -> Advance
     }
 }
 
-/// `done` steps after `steps` others, with this peak, and what the next one performs; the run goes
+/// The advance of The advance of `done` steps after `steps` others, with this peak, and what the next one performs; the run goes
 /// on.
 fn going(done: u64, next: Option<Function>, hints: RunHints, steps: u64, peak: u32) -> Advance
     requires { steps + done < 2 ^ 64 }

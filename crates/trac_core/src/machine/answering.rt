@@ -61,11 +61,11 @@ impl<'a> Machine<'a> {
         unknown_call(&self.work, self.no_comma_from).is_some()
     }
 
-    /// Makes the next step, which performs a call whose name is no function, with this value in the place of the
-    /// null one. `how` says where the value goes. The answer is that of `step`: None where the step was done. The
-    /// step needs the cells of all strings and forms but one, and one for each byte of the value; where these are
-    /// more than the block has the run ends, and so it does with the allowance used up. `Refused`, with
-    /// nothing changed, where the next step performs no such call, and where the run is over. This
+    /// Makes the next step, which performs a call whose name is no function, and gives the call this value
+    /// instead of the null one. `how` says where the value goes. The answer is that of `step`: None if the step
+    /// was done. The step needs the cells of all strings and forms but one, and one for each byte of the value. If
+    /// these are more than the block has, or the allowance is used up, the run ends. `Refused`, with
+    /// nothing changed, if the next step performs no such call, and where the run is over. This
     /// processor's own choice.
     pub fn answer(&mut self, value: &[u8], how: Delivery) -> Result<Option<Fate>, Refused>
         ensures answered { MatchResult result
@@ -99,7 +99,7 @@ impl<'a> Machine<'a> {
     }
 }
 
-/// Where the mark stands of the call of no function that a step over these contents performs. None where it performs
+/// Where the mark stands of the call of no function that a step over these contents performs. None if it performs
 /// no call, or one of a function. From place `no_comma_from` on no comma mark stands in the neutral string.
 fn unknown_call(work: &Work, no_comma_from: u32) -> Option<u32>
     requires { HasNoCommaFrom no_comma_from work.now.neutral }

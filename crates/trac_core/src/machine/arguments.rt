@@ -12,7 +12,7 @@ use trac_forms::{Cell, Work};
 use trac_functions::arguments::text;
 
 impl<'a> Machine<'a> {
-    /// How many arguments the call has that the next step performs, its name counted and null ones too. 0 where that
+    /// How many arguments the call has that the next step performs, its name counted and null ones too. 0 if that
     /// step performs no call, as `next_call` says. This processor's own choice.
     pub fn argument_count(&self) -> u32
         ensures { result ≡ length (next_texts self.now) }
@@ -41,7 +41,7 @@ impl<'a> Machine<'a> {
     }
 }
 
-/// How many arguments the call has that a step over these contents performs, the name counted; 0 where it performs
+/// How many arguments the call has that a step over these contents performs, the name counted; 0 if it performs
 /// none. From place `no_comma_from` on no comma mark stands in the neutral string.
 fn performed_count(work: &Work, no_comma_from: u32) -> u32
     requires { HasNoCommaFrom no_comma_from work.now.neutral }

@@ -15,7 +15,7 @@ use trac_functions::arguments::{Arguments, text};
 use trac_functions::function::function_named;
 use trac_language::Function;
 
-/// Where the mark stands of the call that a step over these contents performs. None where it
+/// Where the mark stands of the call that a step over these contents performs. None if it
 /// performs no call.
 #[inline]
 pub(crate) fn closed_call(work: &Work) -> Option<u32>

@@ -35,7 +35,7 @@ pub struct CallMark {
 /// The call that the next step performs.
 #[derive(Clone, Copy)]
 pub struct NextCall {
-    /// The function that the call names. `None` where no function has the name.
+    /// The function that the call names. `None` if no function has the name.
     pub function: Option<Function>,
     /// How many arguments stand behind the name, null ones counted: one for each comma mark of the
     /// call, so 0 without a comma. They are counted too where no function has the name.
@@ -63,7 +63,7 @@ impl<'a> Machine<'a> {
     }
 
     /// The call that the next step performs, for a host that shows or counts calls before they are
-    /// performed. None where that step performs no call: the active string begins with no right
+    /// performed. None if that step performs no call: the active string begins with no right
     /// parenthesis, or no call is open. None too where there is no next step: the run is over, or the
     /// allowance is used up. A call that the step then refuses, since the cells are too few, is given.
     /// Looks at the arguments of that call and at the mark of each open call. This processor's own choice.

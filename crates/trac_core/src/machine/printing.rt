@@ -30,7 +30,7 @@ use trac_language::Function;
 use trac_space::Part;
 
 impl<'a> Machine<'a> {
-    /// How many bytes the next step prints: by `ps` or `pf`, whatever the input. 0 where it prints
+    /// How many bytes the next step prints: by `ps` or `pf`, whatever the input. 0 if it prints
     /// nothing, and where the run is over or the allowance is used up. This processor's own choice.
     pub fn prints(&mut self) -> u32
         ensures length { (input : Input) → result ≡ length (next_printed self.old input) }
@@ -66,7 +66,7 @@ impl<'a> Machine<'a> {
 
 impl<'a> Machine<'a> {
     /// Makes the next step, which prints, and drops what it prints: a host that took it in pieces goes on so.
-    /// `Refused`, with nothing changed, where that step prints nothing, the run is over, or the allowance is
+    /// `Refused`, with nothing changed, if that step prints nothing, the run is over, or the allowance is
     /// used up. This processor's own choice.
     pub fn skip_print(&mut self) -> Result<(), Refused>
         // the step is the definition's, over any source, behind whatever was written

@@ -80,7 +80,7 @@ impl<'a> Machine<'a> {
         self.work.listed_at(k)
     }
 
-    /// The form whose name is these characters, a cell for each, to be looked at. `None` where no form
+    /// The form whose name is these characters, a cell for each, to be looked at. `None` if no form
     /// has the name. The machine finds it as its own calls find forms, so that it need not look at each.
     pub fn form_named(&self, name: &[Cell]) -> Option<StoredForm<'_>>
         requires { All IsByte name.now }
@@ -109,7 +109,7 @@ impl<'a> Machine<'a> {
         }
     }
 
-    /// The function that the next step performs. `None` where it performs no call, or one whose name
+    /// The function that the next step performs. `None` if it performs no call, or one whose name
     /// no function has, and where there is no next step: the run is over, or the allowance is used up.
     /// This processor's own choice.
     pub fn next_function(&self) -> Option<Function>

@@ -74,8 +74,8 @@ impl<A: Allocator + Copy> Watch<A> {
         )
     }
 
-    // Warns of a left parenthesis that has no match, unless it is told already, or of the open calls beyond
-    // the outermost `depth`.
+    // Warns of a left parenthesis that has no match, unless there is a warning of it already, or of the open
+    // calls beyond the outermost `depth`.
     fn warn_of_left_open(
         &mut self,
         depth: usize,

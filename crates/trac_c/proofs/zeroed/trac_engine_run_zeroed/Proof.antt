@@ -1,4 +1,4 @@
--- `trac_engine_run_zeroed` refuses a number of cells, or lends the block for a lifetime that is fresh_machine for the run, and has it back as room once that is ended. Assumes `Logic`.
+-- `trac_engine_run_zeroed` refuses a number of cells, or lends the block for a lifetime that is made for the run, and has it back as room once that is ended. Assumes `Logic`.
 use Rattle.trac_c.proofs.Walking.{ℕ, ◌≤◌, ◌<◌, ◌^◌, arith, ◌≡◌, refl, subst, ◌∙◌, List, [], ◌∷◌, ◌++◌, ltb→lt, nltb→le, length, Lft, ftrue, fsep, flft, froom, fres, full_share, id⊢, emp, fact, fact_i, tables, Array, usize, u8, u64, row, whole_out, Is, shows, slice_back, mem, uint_vals, uint_Tells, uint_Makes, Ptr, RawPtr, block_ptr, rawptr_vals, rawptr_Tells, in_a_block, room_at, Bor, MutBor, MutSlice, mut_slice_vals, mut_slice_Tells, finally, res-finally, heres, coded_holeys, ShrSlice, slice_val, shr_slice_vals, shr_slice_Tells, nothing, owned, peeks, heard, calls_at, lasts, alive, triple_of, framed, says, w64, named, ty_array, Val, WpFn, alloc_all, pass_all, free_all, look_at, look_in_at, get, get_in, sets, lands_as, env, ‵, raw, ◌⊛◌, some, later, prop, ◌$◌, ◌∵◌, !, qed, move, drop, use0, use1, use3, join, split, pick, await, rewrite, regoal, fsplit, fjoin, feq_i, feq_l, done, at_ret, agg, whole, sub, stop, fld, hop, from, addr, no_more, and_then, returns, returns_within, enter, bin, first, skips, branches, exec, Arr, lft_new, lft_end, Cell, Owed, meets_by, gives}
 use Rattle.std.proofs.ptr.Rows as Rows
 use Rattle.trac_space.specs.contracts.cell.Cell as C

@@ -10,7 +10,7 @@ if_ok : {A E : Type 0} (r : Result A E) (P Q : A → Type 0) → ((a : A) → P 
 if_ok (Ok a) P Q more p = more a p
 if_ok (Err e) P Q more p = p
 
--- a source over memory has not ended when it is fresh_machine
+-- a source over memory has not ended when it is made
 not_ended : (bytes : List ℕ) (fails_at : Option ℕ) → (slice_input bytes fails_at).ended ≡ false
 not_ended bytes None = refl
 not_ended bytes (Some place) = refl
