@@ -204,7 +204,7 @@ fn over(done: u64, no_comma_from: u32, report: Report) -> Advance
     }
 }
 
-/// The advance of The advance of `done` steps after `steps` others, with this peak, and what the next one performs; the run goes
+/// The advance of `done` steps after `steps` others, with this peak, and what the next one performs; the run goes
 /// on.
 fn going(done: u64, next: Option<Function>, hints: RunHints, steps: u64, peak: u32) -> Advance
     requires { steps + done < 2 ^ 64 }
