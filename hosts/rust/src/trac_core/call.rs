@@ -3,12 +3,12 @@
 //! `trac_functions::function`. The functions that read, print, change the meta character or end the
 //! run are called here; one that reads or prints has a line in `needs_device` too.
 
-use crate::trac_core::attempt::Attempt;
 use crate::trac_core::delivery::{finish_call, is_active_call};
 use crate::trac_core::display::print_form;
 use crate::trac_core::idling::load_idling;
 use crate::trac_core::input_output::{change_meta, print_string, read_character, read_string};
-use crate::trac_core::scan::{InnermostCall, Pending};
+use crate::trac_core::outcome::StepOutcome;
+use crate::trac_core::scan::{InnermostCall, NextAction};
 use crate::trac_devices::{Sink, Source};
 use crate::trac_forms::Work;
 use crate::trac_functions::arguments::{Arguments, CallResult};
@@ -20,17 +20,17 @@ use crate::trac_space::Part;
 /// the idling procedure is loaded, or the right parenthesis is deleted and the innermost call
 /// performed.
 #[inline(always)]
-pub(crate) fn perform_pending<I: Source, O: Sink>(
+pub(crate) fn perform_next<I: Source, O: Sink>(
     work: &mut Work,
-    pending: Pending,
+    action: NextAction,
     meta: &mut u8,
     source: &mut I,
     sink: &mut O,
-) -> Attempt
+) -> StepOutcome
 {
-    match pending {
-        Pending::Idling => load_idling(work),
-        Pending::EndOfCall(call) => {
+    match action {
+        NextAction::Idling => load_idling(work),
+        NextAction::EndOfCall(call) => {
             work.drop_active(1);
             perform(work, call, meta, source, sink)
         }
@@ -45,7 +45,7 @@ fn perform<I: Source, O: Sink>(
     meta: &mut u8,
     source: &mut I,
     sink: &mut O,
-) -> Attempt
+) -> StepOutcome
 {
     let before = work.used();
     let part = Part {
@@ -56,22 +56,22 @@ fn perform<I: Source, O: Sink>(
     let Some(function) = parts.function else {
         return finish_call(work, part, before, nothing(work, parts));
     };
-    let made = answer(work, parts, function, meta, source, sink);
-    finish_call(work, part, before, made)
+    let call_result = answer(work, parts, function, meta, source, sink);
+    finish_call(work, part, before, call_result)
 }
 
 /// Performs the innermost call, whose right parenthesis was deleted and which needs no device.
 #[inline(always)]
-pub(crate) fn perform_alone(work: &mut Work, call: NamedCall, meta: &mut u8) -> Attempt
+pub(crate) fn perform_alone(work: &mut Work, call: NamedCall, meta: &mut u8) -> StepOutcome
 {
     let before = work.used();
     let end = work.neutral_len();
-    let made = answer_alone(work, call, meta);
+    let call_result = answer_alone(work, call, meta);
     let part = Part {
         from: call.place,
         to: end,
     };
-    finish_call(work, part, before, made)
+    finish_call(work, part, before, call_result)
 }
 
 /// The innermost call by its parts.
@@ -92,7 +92,7 @@ pub(crate) fn named(work: &Work, call: InnermostCall) -> NamedCall
     let mut arguments = Arguments {
         from: call.place + 1,
         end: work.neutral_len(),
-        plain: call.plain,
+        no_comma_from: call.no_comma_from,
         scanned: is_active_call(work, call.place),
     };
     NamedCall {
@@ -151,7 +151,7 @@ fn answer<I: Source, O: Sink>(
         Function::ReadCharacter => read_character(work, source),
         Function::PrintString => print_string(work, call.arguments, sink),
         Function::PrintForm => print_form(work, call.arguments, sink),
-        _ => made_alone(work, function, call.arguments, meta),
+        _ => result_alone(work, function, call.arguments, meta),
     }
 }
 
@@ -163,14 +163,14 @@ fn answer_alone(work: &mut Work, call: NamedCall, meta: &mut u8) -> CallResult
         None => CallResult::Null(0),
         Some(function) => match function {
             Function::PrintString => CallResult::Null(0),
-            _ => made_alone(work, function, call.arguments, meta),
+            _ => result_alone(work, function, call.arguments, meta),
         },
     }
 }
 
 /// What a function that touches no device makes of the arguments that follow its name.
 #[inline(always)]
-fn made_alone(
+fn result_alone(
     work: &mut Work,
     function: Function,
     arguments: Arguments,

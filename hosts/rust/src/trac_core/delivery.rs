@@ -1,19 +1,24 @@
 // Generated from crates/trac_core/src/delivery.rt by hosts/rust/generate, and never edited.
-//! What a function's answer comes to: the count of what the call needed, and where its value goes.
+//! What follows a function's answer: the count of what the call needed, and where its value goes.
 
-use crate::trac_core::attempt::Attempt;
+use crate::trac_core::outcome::StepOutcome;
 use crate::trac_forms::Work;
 use crate::trac_functions::arguments::CallResult;
 use crate::trac_language::{Fate, Mode};
 use crate::trac_space::{Cell, Part};
 
-/// The call that is this part of the neutral string, its mark and its arguments, leaves, and what its
-/// function answered comes to its end: a value that doesn't stand where it belongs is moved there.
+/// Removes the call that is this part of the neutral string, its mark and its arguments, and finishes what
+/// its function began: a value that doesn't stand where it belongs is moved there.
 /// `before` cells were used when the call was performed.
 #[inline(always)]
-pub(crate) fn finish_call(work: &mut Work, call: Part, before: u32, made: CallResult) -> Attempt
+pub(crate) fn finish_call(
+    work: &mut Work,
+    call: Part,
+    before: u32,
+    call_result: CallResult,
+) -> StepOutcome
 {
-    let (fate, need) = match made {
+    let (fate, need) = match call_result {
         CallResult::Full => (Some(Fate::Workspace), 0),
         CallResult::Over(fate) => (Some(fate), work.used()),
         CallResult::InFront(cells) | CallResult::Null(cells) => {
@@ -31,11 +36,11 @@ pub(crate) fn finish_call(work: &mut Work, call: Part, before: u32, made: CallRe
             (None, need)
         }
     };
-    Attempt { fate, need }
+    StepOutcome { fate, need }
 }
 
-/// The call whose mark stands at the place leaves, and its value, which stands from another place
-/// on, goes before the active string or stays.
+/// Removes the call whose mark stands at the place. Its value, which stands from another place on, goes
+/// before the active string or stays.
 #[inline]
 fn deliver(work: &mut Work, place: u32, from: u32)
 {
@@ -43,7 +48,7 @@ fn deliver(work: &mut Work, place: u32, from: u32)
     move_value(work, place, from, scanned);
 }
 
-/// The call whose mark stands at the place leaves, and its value, which stands from another place on, goes before
+/// Removes the call whose mark stands at the place. Its value, which stands from another place on, goes before
 /// the active string if it is to be scanned again, and else stays.
 #[inline(always)]
 pub(crate) fn move_value(work: &mut Work, place: u32, from: u32, scanned: bool)

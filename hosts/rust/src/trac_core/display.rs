@@ -96,7 +96,7 @@ pub fn display_len(form: &StoredForm) -> u32
     len
 }
 
-/// How many bytes the display of an item has, 0 where there is none.
+/// How many bytes the display of an item has, 0 if there is none.
 fn item_len(item: Option<Item>) -> u32
 {
     match item {

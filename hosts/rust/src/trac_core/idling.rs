@@ -1,7 +1,7 @@
 // Generated from crates/trac_core/src/idling.rt by hosts/rust/generate, and never edited.
 //! The idling procedure, which a step loads where the active string is empty.
 
-use crate::trac_core::attempt::Attempt;
+use crate::trac_core::outcome::StepOutcome;
 use crate::trac_forms::Work;
 use crate::trac_language::{Fate, Mode};
 use crate::trac_space::Cell;
@@ -27,16 +27,16 @@ pub(crate) const IDLING_STEPS: u64 = 8;
 
 /// The active string is empty: the neutral string is cleared, and the idling procedure becomes the
 /// active string, if there are cells for it.
-pub(crate) fn load_idling(work: &mut Work) -> Attempt
+pub(crate) fn load_idling(work: &mut Work) -> StepOutcome
 {
     work.clear_neutral();
     if work.load_active(IDLING) {
-        Attempt {
+        StepOutcome {
             fate: None,
             need: work.used(),
         }
     } else {
-        Attempt {
+        StepOutcome {
             fate: Some(Fate::Workspace),
             need: 0,
         }

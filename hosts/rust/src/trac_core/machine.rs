@@ -1,8 +1,8 @@
 // Generated from crates/trac_core/src/machine.rt by hosts/rust/generate, and never edited.
 //! The machine: one step, and a run to the end.
 
-use crate::trac_core::attempt::Attempt;
-use crate::trac_core::call::perform_pending;
+use crate::trac_core::call::perform_next;
+use crate::trac_core::outcome::StepOutcome;
 use crate::trac_core::performer::WithDevices;
 use crate::trac_core::scan::scan_once;
 use crate::trac_devices::{Sink, Source};
@@ -33,7 +33,7 @@ pub struct Machine<'a> {
     work: Work<'a>,
     meta: u8,
     /// A place of the neutral string from which on no comma mark stands.
-    plain: u32,
+    no_comma_from: u32,
     allowance: u64,
     steps: u64,
     peak: u32,
@@ -50,7 +50,7 @@ impl<'a> Machine<'a> {
         Machine {
             work: Work::over(block),
             meta: b'\'',
-            plain: 0,
+            no_comma_from: 0,
             allowance: steps,
             steps: 0,
             peak: 0,
@@ -79,43 +79,43 @@ impl<'a> Machine<'a> {
             return self.fate;
         }
         if self.steps == self.allowance {
-            return self.count(Attempt {
+            return self.count(StepOutcome {
                 fate: Some(Fate::Steps),
                 need: 0,
             });
         }
         let need = self.work.used();
-        let Some(pending) = scan_once(&mut self.work, self.plain) else {
-            self.plain = self.work.neutral_len();
-            return self.count(Attempt { fate: None, need });
+        let Some(action) = scan_once(&mut self.work, self.no_comma_from) else {
+            self.no_comma_from = self.work.neutral_len();
+            return self.count(StepOutcome { fate: None, need });
         };
-        let attempt = perform_pending(&mut self.work, pending, &mut self.meta, source, sink);
-        self.plain = self.work.neutral_len();
-        self.count(attempt)
+        let outcome = perform_next(&mut self.work, action, &mut self.meta, source, sink);
+        self.no_comma_from = self.work.neutral_len();
+        self.count(outcome)
     }
 
-    /// Counts a step that came to this, of a run that is not over.
-    fn count(&mut self, attempt: Attempt) -> Option<Fate>
+    /// Counts a step with this outcome, of a run that is not over.
+    fn count(&mut self, outcome: StepOutcome) -> Option<Fate>
     {
-        match attempt.fate {
+        match outcome.fate {
             None | Some(Fate::Halted | Fate::InputEnded) => {
                 self.steps += 1;
-                self.peak = self.peak.max(attempt.need);
+                self.peak = self.peak.max(outcome.need);
             }
             Some(Fate::InputFailed | Fate::OutputFailed) => {
-                self.peak = self.peak.max(attempt.need);
+                self.peak = self.peak.max(outcome.need);
             }
             Some(Fate::Workspace | Fate::Steps) => {}
         }
-        if attempt.fate.is_some() {
-            self.fate = attempt.fate;
+        if outcome.fate.is_some() {
+            self.fate = outcome.fate;
         }
-        attempt.fate
+        outcome.fate
     }
 
-    /// Makes steps to the end of the run, and reports what it came to: with neither device failing,
+    /// Makes steps to the end of the run, and reports the result: with neither device failing,
     /// the output, the fate, the steps and the peak of the definition's run in this room with this
-    /// allowance. A machine that was just made is run.
+    /// allowance. The machine must be fresh.
     pub fn run<I: Source, O: Sink>(mut self, source: &mut I, sink: &mut O) -> Report
     {
         self.resume(source, sink)
@@ -124,7 +124,7 @@ impl<'a> Machine<'a> {
     /// Makes steps to the end of the run, as `run` does, from wherever the machine stands, and
     /// leaves it to be looked at: the report has its steps and its peak. With neither device
     /// failing, what is printed, the fate, the steps and the peak are those of the definition's run
-    /// from there. Where the run is over already, the same fate is reported again, and nothing is
+    /// from there. If the run is over already, the same fate is reported again, and nothing is
     /// called.
     pub fn resume<I: Source, O: Sink>(&mut self, source: &mut I, sink: &mut O) -> Report
     {

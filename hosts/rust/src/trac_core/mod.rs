@@ -2,13 +2,13 @@
 //! The machine: the scanner, the calls that read and print, steps and runs. All that stands below
 //! it and that a caller needs has its name here too.
 
-mod attempt;
 mod call;
 mod delivery;
 mod display;
 mod idling;
 mod input_output;
 mod machine;
+mod outcome;
 mod performer;
 mod rules;
 mod run_hints;

@@ -2,10 +2,10 @@
 //! What performs the calls that the scanner comes to: all of them, with a source and a sink, or those
 //! that need neither.
 
-use crate::trac_core::attempt::Attempt;
-use crate::trac_core::call::{asks_host, named, needs_device, perform_alone, perform_pending};
+use crate::trac_core::call::{asks_host, named, needs_device, perform_alone, perform_next};
 use crate::trac_core::idling::load_idling;
-use crate::trac_core::scan::Pending;
+use crate::trac_core::outcome::StepOutcome;
+use crate::trac_core::scan::NextAction;
 use crate::trac_devices::{Sink, Source};
 use crate::trac_forms::Work;
 use crate::trac_language::Function;
@@ -17,11 +17,11 @@ pub(crate) trait Performer<I, O>: Copy {
     fn perform(
         self,
         work: &mut Work,
-        pending: Pending,
+        action: NextAction,
         meta: &mut u8,
         source: &mut I,
         sink: &mut O,
-    ) -> Result<Attempt, Option<Function>>;
+    ) -> Result<StepOutcome, Option<Function>>;
 }
 
 /// Performs each call. Those that read or print use the source and the sink.
@@ -33,12 +33,12 @@ impl<I: Source, O: Sink> Performer<I, O> for WithDevices {
     fn perform(
         self,
         work: &mut Work,
-        pending: Pending,
+        action: NextAction,
         meta: &mut u8,
         source: &mut I,
         sink: &mut O,
-    ) -> Result<Attempt, Option<Function>> {
-        Ok(perform_pending(work, pending, meta, source, sink))
+    ) -> Result<StepOutcome, Option<Function>> {
+        Ok(perform_next(work, action, meta, source, sink))
     }
 }
 
@@ -54,14 +54,14 @@ impl Performer<(), ()> for Alone {
     fn perform(
         self,
         work: &mut Work,
-        pending: Pending,
+        action: NextAction,
         meta: &mut u8,
         _source: &mut (),
         _sink: &mut (),
-    ) -> Result<Attempt, Option<Function>> {
-        match pending {
-            Pending::Idling => Ok(load_idling(work)),
-            Pending::EndOfCall(call) => {
+    ) -> Result<StepOutcome, Option<Function>> {
+        match action {
+            NextAction::Idling => Ok(load_idling(work)),
+            NextAction::EndOfCall(call) => {
                 let call = named(work, call);
                 if needs_device(work, call) {
                     return Err(call.function);

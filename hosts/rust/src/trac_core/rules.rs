@@ -4,8 +4,8 @@
 
 use crate::trac_space::{Cell, byte_in};
 
-/// The rows of the table of scanning rules: what a step does is
-/// told by the beginning of the active string (Mooers 1966).
+/// The rows of the table of scanning rules: the beginning of the active string decides what a step does
+/// (Mooers 1966).
 #[derive(Clone, Copy, Debug, PartialEq, Eq)]
 pub enum ScanningRule {
     /// The active string is empty: the idling procedure is loaded.

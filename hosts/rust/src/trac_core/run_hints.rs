@@ -1,12 +1,12 @@
 // Generated from crates/trac_core/src/run_hints.rt by hosts/rust/generate, and never edited.
 //! What the scanner remembers between the runs of characters that it moves.
 
-/// What the scanner knows when the next run begins. `plain_from` must be right; `long_runs` may be any
+/// What the scanner knows when the next run begins. `no_comma_from` must be right; `long_runs` may be any
 /// number, since it only decides how a run is moved.
 #[derive(Clone, Copy, Debug, PartialEq, Eq)]
 pub(crate) struct RunHints {
     /// A place of the neutral string from which on no comma mark stands.
-    pub(crate) plain_from: u32,
+    pub(crate) no_comma_from: u32,
     /// How many long runs followed one another last.
     pub(crate) long_runs: u32,
 }
@@ -15,10 +15,10 @@ impl RunHints {
     /// Hints with a place of the neutral string from which on no comma mark stands. No long run came
     /// before.
     #[inline(always)]
-    pub(crate) fn new(plain_from: u32) -> RunHints
+    pub(crate) fn new(no_comma_from: u32) -> RunHints
     {
         RunHints {
-            plain_from,
+            no_comma_from,
             long_runs: 0,
         }
     }

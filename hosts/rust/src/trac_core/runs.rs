@@ -27,7 +27,7 @@ const SIDES: &[u8; 256] = b"\
     \0\0\0\0\0\0\0\0\0\0\0\0\0\0\0\0\0\0\0\0\0\0\0\0\0\0\0\0\0\0\0\0";
 
 // How many characters of a run are looked at one by one before it is looked at by blocks.
-const FEW: usize = 8;
+const LOOKED_AT_ONE_BY_ONE: usize = 8;
 // How many characters are looked at by one test of a table.
 const BLOCK: usize = 8;
 // What the table of parentheses says of a right one: more than of the left ones of a block together.
@@ -59,7 +59,7 @@ pub fn is_layout(character: u8) -> bool
 /// runs are short.
 pub(crate) fn ordinary_characters(cells: &[Cell]) -> u32
 {
-    let few = cells.len().min(FEW);
+    let few = cells.len().min(LOOKED_AT_ONE_BY_ONE);
     match special_before(cells, 0, few) {
         Some(i) => i as u32,
         None => ordinary_run(cells, few),
@@ -138,7 +138,7 @@ fn kinds(cells: &[Cell], i: usize) -> u8
         + kind(&cells[7])
 }
 
-/// What the table says of the character of a cell.
+/// What the table says about the character of a cell.
 #[inline]
 fn kind(cell: &Cell) -> u8
 {
@@ -204,7 +204,7 @@ fn sides(cells: &[Cell], i: usize) -> u8
         + side(&cells[7])
 }
 
-/// What that table says of the character of a cell.
+/// What that table says about the character of a cell.
 #[inline]
 fn side(cell: &Cell) -> u8
 {

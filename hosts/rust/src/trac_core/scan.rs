@@ -11,7 +11,7 @@ use crate::trac_space::{Cell, byte_in};
 
 // Up to this many characters of a run in a call are moved as they are looked at; a longer run is long.
 // Up to twelve, the compiler makes code without a loop.
-const FEW: u64 = 12;
+const MOVED_ONE_BY_ONE: u64 = 12;
 
 /// The cells of the active string.
 #[inline(always)]
@@ -32,7 +32,7 @@ pub(crate) fn is_at(work: &Work, place: u32, byte: u8) -> bool
 
 /// What the beginning of the active string asks for where no rule fits that only scans.
 #[derive(Clone, Copy, Debug, PartialEq, Eq)]
-pub(crate) enum Pending {
+pub(crate) enum NextAction {
     /// It is empty: the idling procedure.
     Idling,
     /// A right parenthesis: the innermost call.
@@ -45,19 +45,22 @@ pub(crate) struct InnermostCall {
     /// Where its mark stands in the neutral string.
     pub(crate) place: u32,
     /// A place of that string from which on no comma mark stands.
-    pub(crate) plain: u32,
+    pub(crate) no_comma_from: u32,
 }
 
 /// One step that performs no call. Gives what the step asks for instead where it does perform one.
-/// From the plain place on no comma mark stands in the neutral string.
-pub(crate) fn scan_once(work: &mut Work, plain: u32) -> Option<Pending>
+/// From place `no_comma_from` on no comma mark stands in the neutral string.
+pub(crate) fn scan_once(work: &mut Work, no_comma_from: u32) -> Option<NextAction>
 {
     if let Some(place) = closed_call(work) {
-        return Some(Pending::EndOfCall(InnermostCall { place, plain }));
+        return Some(NextAction::EndOfCall(InnermostCall {
+            place,
+            no_comma_from,
+        }));
     }
-    match scan_steps(work, 1, &mut RunHints::new(plain)) {
+    match scan_steps(work, 1, &mut RunHints::new(no_comma_from)) {
         Ok(_) => None,
-        Err(pending) => Some(pending),
+        Err(action) => Some(action),
     }
 }
 
@@ -65,10 +68,14 @@ pub(crate) fn scan_once(work: &mut Work, plain: u32) -> Option<Pending>
 /// run of ordinary characters, in a call with the commas between them, or of layout characters, or
 /// one step of another rule that performs no call.
 #[inline(always)]
-pub(crate) fn scan_steps(work: &mut Work, most: u64, hints: &mut RunHints) -> Result<u64, Pending>
+pub(crate) fn scan_steps(
+    work: &mut Work,
+    most: u64,
+    hints: &mut RunHints,
+) -> Result<u64, NextAction>
 {
     match next_rule(work) {
-        ScanningRule::Idling => Err(Pending::Idling),
+        ScanningRule::Idling => Err(NextAction::Idling),
         ScanningRule::Layout => Ok(delete_layout(work, most)),
         ScanningRule::Protection => {
             protect(work);
@@ -81,7 +88,7 @@ pub(crate) fn scan_steps(work: &mut Work, most: u64, hints: &mut RunHints) -> Re
             add_number_sign(work);
             Ok(1)
         }
-        ScanningRule::EndOfCall => end_call(work, hints.plain_from),
+        ScanningRule::EndOfCall => end_call(work, hints.no_comma_from),
         ScanningRule::Character => Ok(add_characters(work, most, hints)),
     }
 }
@@ -96,10 +103,13 @@ fn next_rule(work: &Work) -> ScanningRule
 /// A right parenthesis closes the innermost call, or, where none is
 /// open, is deleted (this processor's own choice).
 #[inline]
-fn end_call(work: &mut Work, plain: u32) -> Result<u64, Pending>
+fn end_call(work: &mut Work, no_comma_from: u32) -> Result<u64, NextAction>
 {
     match work.last_call() {
-        Some(place) => Err(Pending::EndOfCall(InnermostCall { place, plain })),
+        Some(place) => Err(NextAction::EndOfCall(InnermostCall {
+            place,
+            no_comma_from,
+        })),
         None => {
             work.drop_active(1);
             Ok(1)
@@ -113,13 +123,13 @@ fn end_call(work: &mut Work, plain: u32) -> Result<u64, Pending>
 #[inline]
 fn add_characters(work: &mut Work, most: u64, hints: &mut RunHints) -> u64
 {
-    let before = hints.plain_from;
+    let before = hints.no_comma_from;
     let count = if hints.long_runs_follow() || work.last_call().is_none() {
         add_long_run(work, most)
     } else {
         add_run(work, most, hints)
     };
-    let is_long = count >= FEW && hints.plain_from == before;
+    let is_long = count >= MOVED_ONE_BY_ONE && hints.no_comma_from == before;
     hints.count_run(is_long);
     count
 }
@@ -135,22 +145,22 @@ fn begin_argument(work: &mut Work, most: u64, hints: &mut RunHints) -> u64
     }
     if hints.long_runs_follow() {
         work.active_to_cell(1, Cell::Comma);
-        hints.plain_from = work.neutral_len();
+        hints.no_comma_from = work.neutral_len();
         return 1;
     }
     add_run(work, most, hints)
 }
 
 /// Adds the ordinary characters and the commas at the front of the active string where a call is
-/// open, at most `most` and at most `FEW`. Gives how many steps these are: 0 where another character
+/// open, at most `most` and at most `MOVED_ONE_BY_ONE`. Gives how many steps these are: 0 if another character
 /// stands there.
 #[inline(always)]
 fn add_run(work: &mut Work, most: u64, hints: &mut RunHints) -> u64
 {
     let reach = most.min(u64::from(work.active_len()));
-    // A number that is known makes a shorter loop.
-    if reach >= FEW {
-        add_run_within(work, FEW as u32, hints)
+    // A constant makes a shorter loop.
+    if reach >= MOVED_ONE_BY_ONE {
+        add_run_within(work, MOVED_ONE_BY_ONE as u32, hints)
     } else {
         add_run_within(work, reach as u32, hints)
     }
@@ -164,7 +174,7 @@ fn add_run_within(work: &mut Work, reach: u32, hints: &mut RunHints) -> u64
     let before = work.neutral_len();
     let (count, last) = work.run_to_neutral(reach, KINDS);
     if last > 0 {
-        hints.plain_from = before + last;
+        hints.no_comma_from = before + last;
     }
     u64::from(count)
 }

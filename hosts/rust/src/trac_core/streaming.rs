@@ -6,9 +6,9 @@ use crate::trac_forms::Work;
 use crate::trac_space::Cell;
 
 // How many characters are put one by one.
-const FEW: usize = 16;
+const PUT_ONE_BY_ONE: usize = 16;
 
-/// How a text ended that was read.
+/// How the reading of a text ended.
 #[derive(Clone, Copy, Debug, PartialEq, Eq)]
 pub(crate) enum ReadEnd {
     /// The meta character followed, and was consumed.
@@ -55,7 +55,7 @@ pub(crate) fn print_text<O: Sink>(text: &Characters<'_>, sink: &mut O) -> Result
 // Puts the characters of a text into a sink, those of a longer one at once.
 fn put_characters<O: Sink>(text: &Characters<'_>, sink: &mut O) -> Result<(), SinkFailed>
 {
-    if text.len() < FEW {
+    if text.len() < PUT_ONE_BY_ONE {
         put_each(text, sink)
     } else {
         sink.put_all(text)

@@ -11,9 +11,15 @@ impl<'a> Work<'a> {
     /// Copies the form's body from its pointer on to the front of active, each gap k replaced by argument k:
     /// the k-th, from 1, of the texts between the comma marks of neutral from place `first` up to `end`, or
     /// nothing if there is no such text. Gives how many characters these are. No comma mark stands in neutral
-    /// from place `plain` up to `end`. None, with nothing changed, if the copy doesn't fit.
+    /// from place `no_comma_from` up to `end`. None, with nothing changed, if the copy doesn't fit.
     #[inline(always)]
-    pub fn load_filled(&mut self, form: FormId, first: u32, end: u32, plain: u32) -> Option<u32>
+    pub fn load_filled(
+        &mut self,
+        form: FormId,
+        first: u32,
+        end: u32,
+        no_comma_from: u32,
+    ) -> Option<u32>
     {
         let at = self.locate(form);
         let items = self.called_place(at);
@@ -21,7 +27,7 @@ impl<'a> Work<'a> {
             from: first,
             to: end,
         };
-        fill_items(&mut self.space, items, texts, plain)
+        fill_items(&mut self.space, items, texts, no_comma_from)
     }
 
     // The part of the store that a call of the form copies: its body from its pointer on.

@@ -96,8 +96,8 @@ impl<'s, 'a> FormFinder<'s, 'a> {
     fn find_among_many(&self, name: &[Cell], search_cost: &mut u32) -> Option<Located>
     {
         let forms = self.cells();
-        if self.space.spare_len() > 0 {
-            let indexed = IndexedForms::of(&forms, self.space.spare_cells());
+        if self.space.index_area_len() > 0 {
+            let indexed = IndexedForms::of(&forms, self.space.index_area_cells());
             return indexed.look_up(name, search_cost);
         }
         let count = self.count;

@@ -6,11 +6,11 @@ use crate::trac_language::Item;
 use crate::trac_space::{Cell, Part, Space};
 
 // Appends the cells of a new form to the store: three head cells, its name and its text, both copied from
-// neutral, and pointer 0. They must fit; the spare list is dropped if they fit only without it.
+// neutral, and pointer 0. They must fit; the index area is dropped if they fit only without it.
 pub(crate) fn store_form(space: &mut Space, name: Part, text: Part)
 {
     let need = 3 + (name.to - name.from) + (text.to - text.from);
-    space.claim(need);
+    space.reserve(need);
     let start = space.store_len();
     space.open_store(need);
     write_form(space, start, name, text);
@@ -27,7 +27,7 @@ fn write_form(space: &mut Space, start: u32, name: Part, text: Part)
 }
 
 // Appends the cells of a form that is given to the store: three head cells, its name and the `len` items of its
-// body. They must fit; the spare list is dropped if they fit only without it.
+// body. They must fit; the index area is dropped if they fit only without it.
 pub(crate) fn store_given<B: Body>(
     space: &mut Space,
     name: &[u8],
@@ -37,7 +37,7 @@ pub(crate) fn store_given<B: Body>(
 )
 {
     let need = 3 + name.len() as u32 + len;
-    space.claim(need);
+    space.reserve(need);
     let start = space.store_len();
     space.open_store(need);
     write_given(space, start, name, body, len, pointer);

@@ -1,7 +1,7 @@
 // Generated from crates/trac_forms/src/index.rt by hosts/rust/generate, and never edited.
 //! The index of the forms: it is made once searches have cost enough, and follows each change of the forms.
 //!
-//! It is a table in the spare list, laid out as the `IndexedForms` of `trac_store` read it.
+//! It is a table in the index area, laid out as the `IndexedForms` of `trac_store` read it.
 
 use crate::trac_forms::form_finder::FORMS_FOR_INDEX;
 use crate::trac_space::{Cell, Space};
@@ -11,17 +11,17 @@ use crate::trac_store::{FIRST_FORM, Located, end_of, hash, heads_of, number, ope
 #[inline]
 fn put_entry(space: &mut Space, slot: u32, form: Located)
 {
-    let quarter = space.spare_len() / 4;
-    space.set_spare_at(slot, Cell::Head(form.number));
-    space.set_spare_at(2 * quarter + form.number, Cell::Head(form.start));
-    space.set_spare_at(3 * quarter + form.number, Cell::Head(slot));
+    let quarter = space.index_area_len() / 4;
+    space.set_index_area_at(slot, Cell::Head(form.number));
+    space.set_index_area_at(2 * quarter + form.number, Cell::Head(form.start));
+    space.set_index_area_at(3 * quarter + form.number, Cell::Head(slot));
 }
 
 // Enters a form into the table, whose name has the hash `first`. False, with nothing changed, if no slot
 // near is open.
 fn add(space: &mut Space, first: usize, form: Located) -> bool
 {
-    match open_slot(space.spare_cells(), first) {
+    match open_slot(space.index_area_cells(), first) {
         None => false,
         Some(slot) => {
             put_entry(space, slot, form);
@@ -35,15 +35,15 @@ fn add(space: &mut Space, first: usize, form: Located) -> bool
 #[inline(always)]
 fn index_form(space: &mut Space, form: Located)
 {
-    if space.spare_len() == 0 {
+    if space.index_area_len() == 0 {
         return;
     }
     let heads = heads_of(space, form);
     let from = form.start + 3;
     let to = from + heads.name;
     let first = hash(space.store_part(from, to));
-    if form.number >= space.spare_len() / 4 || !add(space, first, form) {
-        space.drop_spare();
+    if form.number >= space.index_area_len() / 4 || !add(space, first, form) {
+        space.drop_index_area();
     }
 }
 
@@ -52,7 +52,7 @@ fn index_form(space: &mut Space, form: Located)
 #[inline(always)]
 pub(crate) fn index_last(space: &mut Space, form: Located)
 {
-    if form.number >= space.spare_len() / 4 && space.spare_len() > 0 {
+    if form.number >= space.index_area_len() / 4 && space.index_area_len() > 0 {
         grow_index(space, form.number + 1);
     } else {
         index_form(space, form);
@@ -64,7 +64,7 @@ pub(crate) fn index_last(space: &mut Space, form: Located)
 fn grow_index(space: &mut Space, count: u32)
 {
     if !index_fitting(space, count) {
-        space.drop_spare();
+        space.drop_index_area();
     }
 }
 
@@ -72,18 +72,18 @@ fn grow_index(space: &mut Space, count: u32)
 #[inline]
 fn bury(space: &mut Space, k: u32)
 {
-    let quarter = space.spare_len() / 4;
-    let home = number(space.spare_cells()[(3 * quarter + k) as usize]);
-    space.set_spare_at(home, Cell::Comma);
+    let quarter = space.index_area_len() / 4;
+    let home = number(space.index_area_cells()[(3 * quarter + k) as usize]);
+    space.set_index_area_at(home, Cell::Comma);
 }
 
 // Renumbers form `k` in the table as form `k - 1`, which begins `cells` cells lower.
 #[inline]
 fn bring_forward(space: &mut Space, k: u32, cells: u32)
 {
-    let quarter = space.spare_len() / 4;
-    let home = number(space.spare_cells()[(3 * quarter + k) as usize]);
-    let start = number(space.spare_cells()[(2 * quarter + k) as usize]);
+    let quarter = space.index_area_len() / 4;
+    let home = number(space.index_area_cells()[(3 * quarter + k) as usize]);
+    let start = number(space.index_area_cells()[(2 * quarter + k) as usize]);
     let form = Located {
         number: k - 1,
         start: start - cells,
@@ -95,16 +95,16 @@ fn bring_forward(space: &mut Space, k: u32, cells: u32)
 #[inline]
 fn start_earlier(space: &mut Space, k: u32, cells: u32)
 {
-    let place = 2 * (space.spare_len() / 4) + k;
-    let start = number(space.spare_cells()[place as usize]);
-    space.set_spare_at(place, Cell::Head(start - cells));
+    let place = 2 * (space.index_area_len() / 4) + k;
+    let start = number(space.index_area_cells()[place as usize]);
+    space.set_index_area_at(place, Cell::Head(start - cells));
 }
 
 // Removes a form from the index of `count` forms, if there is one, and renumbers those behind it.
 #[inline(always)]
 pub(crate) fn unindex(space: &mut Space, form: Located, count: u32)
 {
-    if space.spare_len() == 0 {
+    if space.index_area_len() == 0 {
         return;
     }
     let cells = end_of(space, form) - form.start;
@@ -121,7 +121,7 @@ pub(crate) fn shift_starts(space: &mut Space, k: u32, count: u32, cells: u32)
     if cells == 0 {
         return;
     }
-    if space.spare_len() == 0 {
+    if space.index_area_len() == 0 {
         return;
     }
     for next in k + 1..count {
@@ -132,24 +132,24 @@ pub(crate) fn shift_starts(space: &mut Space, k: u32, count: u32, cells: u32)
 // Empties the index of `count` forms, or drops it if it is far too large for them.
 pub(crate) fn clear_index(space: &mut Space, count: u32)
 {
-    if space.spare_len() / 32 > count {
-        space.drop_spare();
+    if space.index_area_len() / 32 > count {
+        space.drop_index_area();
     } else {
-        space.blank_spare();
+        space.blank_index_area();
     }
 }
 
 // Makes a new table of all forms, with `cells` cells, which must fit.
 fn index_all(space: &mut Space, count: u32, cells: u32)
 {
-    space.take_spare(cells);
+    space.take_index_area(cells);
     index_from(space, FIRST_FORM, count);
 }
 
 // Enters the forms from `first` on into the table of the forms before it, if there is a table.
 pub(crate) fn index_from(space: &mut Space, first: Located, count: u32)
 {
-    if space.spare_len() == 0 {
+    if space.index_area_len() == 0 {
         return;
     }
     let mut start = first.start;
@@ -163,7 +163,7 @@ pub(crate) fn index_from(space: &mut Space, first: Located, count: u32)
 // Removes the forms from number `k` on from the table of `count` forms, if there is one.
 pub(crate) fn unindex_from(space: &mut Space, k: u32, count: u32)
 {
-    if space.spare_len() == 0 {
+    if space.index_area_len() == 0 {
         return;
     }
     let mut left = count;

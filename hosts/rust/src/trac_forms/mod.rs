@@ -1,7 +1,7 @@
 // Generated from crates/trac_forms/src/lib.rt by hosts/rust/generate, and never edited.
 //! Forms, a neutral string and an active string in one lent block.
 //!
-//! The store of the block holds the forms, one behind the other, and nothing else; the spare list holds an
+//! The store of the block holds the forms, one behind the other, and nothing else; the index area holds an
 //! index of them, or nothing. `Work` keeps that this is so.
 //!
 //! Forms, their gaps with ordinals, segmenting and the form pointer are those of Mooers, "TRAC, A

@@ -13,7 +13,7 @@ use crate::trac_space::{Cell, Part};
 use crate::trac_store::{FIRST_FORM, Heads, Located, end_of, heads_of, item_in};
 
 impl<'a> Work<'a> {
-    // What finds the forms.
+    // The finder of the forms.
     #[inline(always)]
     pub(crate) fn finder(&self) -> FormFinder<'_, 'a>
     {

@@ -129,7 +129,7 @@ impl<'a> Work<'a> {
     pub fn set_strings(&mut self, neutral: &[Cell], active: &[u8])
     {
         self.space.clear_strings();
-        self.space.claim((neutral.len() + active.len()) as u32);
+        self.space.reserve((neutral.len() + active.len()) as u32);
         self.space.load_bytes(active);
         self.space.put_cells(neutral);
     }
@@ -185,21 +185,21 @@ impl<'a> Work<'a> {
     pub fn load_part(&mut self, a: u32, b: u32) -> bool
     {
         let size = b - a;
-        if size < LONG_LOAD && size <= self.space.free_beside_spare() {
+        if size < LONG_LOAD && size <= self.space.free_beside_index() {
             self.space.load_from_neutral(a, b);
             return true;
         }
         self.load_other_part(a, b)
     }
 
-    // Does what `load_part` does for many characters, or for some that don't fit beside the spare list.
+    // Does what `load_part` does for many characters, or for some that don't fit beside the index area.
     #[inline(never)]
     fn load_other_part(&mut self, a: u32, b: u32) -> bool
     {
         if self.space.free() < b - a {
             return false;
         }
-        self.space.claim(b - a);
+        self.space.reserve(b - a);
         self.space.load_from_neutral(a, b);
         true
     }
@@ -208,7 +208,7 @@ impl<'a> Work<'a> {
     #[inline]
     pub fn load_bytes(&mut self, text: &[u8])
     {
-        self.space.claim(text.len() as u32);
+        self.space.reserve(text.len() as u32);
         self.space.load_bytes(text);
     }
 

@@ -14,7 +14,7 @@ pub struct Arguments {
     pub end: u32,
     /// From this place on no comma mark stands before the end, as the caller knows: the last
     /// argument is found without a search if it begins there or later.
-    pub plain: u32,
+    pub no_comma_from: u32,
     /// Whether the value goes to the active string, as that of an active call does.
     pub scanned: bool,
 }
@@ -57,7 +57,7 @@ impl Arguments {
     // The place where the next argument ends.
     fn end_of_next(&self, work: &Work) -> u32
     {
-        if self.from >= self.plain {
+        if self.from >= self.no_comma_from {
             return self.end;
         }
         self.from + before_comma(work.neutral_part(self.from, self.end))

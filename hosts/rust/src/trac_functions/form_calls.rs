@@ -9,7 +9,7 @@ use crate::trac_space::Part;
 
 // Up to this many names of `dd` are deleted one by one: to move a form that stays twice in the index
 // costs less than to put it in anew.
-const FEW: u32 = 2;
+const DELETED_ONE_BY_ONE: u32 = 2;
 
 /// `da`: all forms are removed (Mooers 1966).
 pub fn delete_all(work: &mut Work) -> CallResult
@@ -80,7 +80,7 @@ fn put_name(work: &mut Work, before: Part, form: FormId) -> bool
 /// ignored, and only the arguments that are written are names (this processor's own choice).
 pub fn delete_definition(work: &mut Work, mut arguments: Arguments) -> CallResult
 {
-    for _name in 0..FEW {
+    for _name in 0..DELETED_ONE_BY_ONE {
         if arguments.is_empty() {
             return CallResult::AtEnd;
         }
@@ -104,7 +104,8 @@ pub fn call_form(work: &mut Work, mut arguments: Arguments) -> CallResult
     let Some(form) = next_form(work, &mut arguments) else {
         return CallResult::AtEnd;
     };
-    let Some(size) = work.load_filled(form, arguments.from, arguments.end, arguments.plain) else {
+    let Some(size) = work.load_filled(form, arguments.from, arguments.end, arguments.no_comma_from)
+    else {
         return CallResult::Full;
     };
     if scanned {
@@ -114,7 +115,7 @@ pub fn call_form(work: &mut Work, mut arguments: Arguments) -> CallResult
     }
 }
 
-/// The form that the next argument names, None where no form has the name.
+/// The form that the next argument names, None if no form has the name.
 #[inline(always)]
 fn next_form(work: &mut Work, arguments: &mut Arguments) -> Option<FormId>
 {

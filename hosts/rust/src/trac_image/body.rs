@@ -1,7 +1,7 @@
 // Generated from crates/trac_image/src/body.rt by hosts/rust/generate, and never edited.
-//! Where a body that stands in an image is read.
+//! The items of a body that stands in an image, read one by one.
 
-/// The items of a body that are still to come, woven of its gaps and its characters.
+/// The items of a body that are still to come, merged from its gaps and its characters.
 #[derive(Clone, Copy, Debug)]
 pub(crate) struct ImageBody<'i> {
     /// How many items there are.

@@ -1,7 +1,7 @@
 // Generated from crates/trac_image/src/laws.rt by hosts/rust/generate, and never edited.
 //! Laws of images. Each function proves one and does nothing.
 
-/// An image tells all forms of a machine, in their order, with their gaps and pointers, and the meta character: no
+/// An image determines all forms of a machine, in their order, with their gaps and pointers, and the meta character: no
 /// two memories have the same image.
 pub fn image_tells_forms()
 {}

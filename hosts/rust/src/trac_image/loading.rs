@@ -11,7 +11,7 @@ use crate::{Forms, Machine, Refused};
 /// stand in the place of the machine's own. The strings, the counters and the fate stay. No step is made, so the peak
 /// doesn't count what this needs. `save` then gives the same bytes.
 ///
-/// `Refused`, with nothing changed, where the bytes are the image of no forms that can stand in this machine: bytes
+/// `Refused`, with nothing changed, if the bytes are the image of no forms that can stand in this machine: bytes
 /// with another head, version or checksum, or with more behind the last form; two forms of one name; a pointer past its
 /// body; a gap with an ordinal of 0 or of more than 16,777,216; more cells than the strings leave.
 pub fn load(machine: &mut Machine, image: &[u8]) -> Result<(), Refused>

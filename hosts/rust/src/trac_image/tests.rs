@@ -108,7 +108,7 @@ fn images_that_are_refused() {
     for len in 0..WORKED.len() {
         assert!(is_refused(&WORKED[..len]));
     }
-    // The worked image itself is made by no change.
+    // Each changed image is refused; the worked one is taken.
     assert!(!is_refused(&changed(5, b';')));
     // Another name, another version, one form fewer, and one more than there are.
     assert!(is_refused(&changed(0, b't')));

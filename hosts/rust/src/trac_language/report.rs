@@ -1,9 +1,9 @@
 // Generated from crates/trac_language/src/report.rt by hosts/rust/generate, and never edited.
-//! What a run came to.
+//! The result of a run.
 
 use crate::trac_language::fate::Fate;
 
-/// What a run came to. The accounting of steps and cells is this processor's own choice.
+/// The result of a run. The accounting of steps and cells is this processor's own choice.
 #[derive(Clone, Copy, Debug, PartialEq, Eq)]
 pub struct Report {
     /// How the run ended.

@@ -1,11 +1,11 @@
 // Generated from crates/trac_language/src/table.rt by hosts/rust/generate, and never edited.
-//! The table of functions: one row for each, with what must be known of it outside its definition. That the rows are
-//! true of what the functions mean is proved in `trac_table_laws`.
+//! The table of functions: one row each, with what the rest of the program needs to know about it. That the rows are
+//! true of what the functions mean is proved in `trac_laws`.
 
 use crate::trac_language::arith::Arith;
 use crate::trac_language::function::Function;
 
-/// The functions that a manual tells of together.
+/// The heading under which a manual describes a function.
 #[derive(Clone, Copy, Debug, PartialEq, Eq)]
 pub enum Group {
     /// Input and output, the meta character and the end of a run.
@@ -35,7 +35,7 @@ pub enum Concerned {
     All,
 }
 
-/// What of the form that it names a call gives as its value.
+/// How much of the form that it names is the value of a call.
 #[derive(Clone, Copy, Debug, PartialEq, Eq)]
 pub enum Given {
     /// Nothing.
@@ -46,7 +46,7 @@ pub enum Given {
     Part,
 }
 
-/// What a function makes of its arguments and of the machine, as far as it can be said of all its calls.
+/// What holds for every call of a function: how it uses its arguments, and what of the machine it can change.
 #[derive(Clone, Copy, Debug)]
 pub struct Traits {
     /// How many arguments behind its name it uses. None if it uses all of them.
@@ -85,14 +85,14 @@ pub struct Facts {
     pub title: &'static [u8],
     /// What it does, in one sentence that speaks of the letters of `call`.
     pub sentence: &'static [u8],
-    /// Where a manual tells of it.
+    /// The heading under which a manual describes it.
     pub group: Group,
-    /// What it makes of its arguments and of the machine.
+    /// What holds for each of its calls.
     pub traits: Traits,
 }
 
 // A function that uses two arguments, has a value, and does nothing else.
-const PLAIN: Traits = Traits {
+const NO_TRAITS: Traits = Traits {
     uses: Some(2),
     forms: Concerned::Nothing,
     needs_form: false,
@@ -112,14 +112,14 @@ const PART: Traits = Traits {
     needs_form: true,
     changes_forms: true,
     gives: Given::Part,
-    ..PLAIN
+    ..NO_TRAITS
 };
 
 // A function that computes with two numbers.
 const COMPUTED: Traits = Traits {
     uses: Some(3),
     default: Some(3),
-    ..PLAIN
+    ..NO_TRAITS
 };
 
 // The table: a row for each function.
@@ -133,7 +133,7 @@ const READ_STRING: Facts = Facts {
     traits: Traits {
         uses: Some(0),
         reads: true,
-        ..PLAIN
+        ..NO_TRAITS
     },
 };
 
@@ -146,7 +146,7 @@ const READ_CHARACTER: Facts = Facts {
     traits: Traits {
         uses: Some(0),
         reads: true,
-        ..PLAIN
+        ..NO_TRAITS
     },
 };
 
@@ -159,7 +159,7 @@ const CHANGE_META: Facts = Facts {
     traits: Traits {
         uses: Some(1),
         changes_meta: true,
-        ..PLAIN
+        ..NO_TRAITS
     },
 };
 
@@ -172,7 +172,7 @@ const PRINT_STRING: Facts = Facts {
     traits: Traits {
         uses: Some(1),
         prints: true,
-        ..PLAIN
+        ..NO_TRAITS
     },
 };
 
@@ -185,7 +185,7 @@ const HALT: Facts = Facts {
     traits: Traits {
         uses: Some(0),
         ends: true,
-        ..PLAIN
+        ..NO_TRAITS
     },
 };
 
@@ -198,7 +198,7 @@ const DEFINE_STRING: Facts = Facts {
     traits: Traits {
         forms: Concerned::First,
         changes_forms: true,
-        ..PLAIN
+        ..NO_TRAITS
     },
 };
 
@@ -213,7 +213,7 @@ const SEGMENT_STRING: Facts = Facts {
         forms: Concerned::First,
         needs_form: true,
         changes_forms: true,
-        ..PLAIN
+        ..NO_TRAITS
     },
 };
 
@@ -227,7 +227,7 @@ const DELETE_DEFINITION: Facts = Facts {
         uses: None,
         forms: Concerned::Each,
         changes_forms: true,
-        ..PLAIN
+        ..NO_TRAITS
     },
 };
 
@@ -241,7 +241,7 @@ const DELETE_ALL: Facts = Facts {
         uses: Some(0),
         forms: Concerned::All,
         changes_forms: true,
-        ..PLAIN
+        ..NO_TRAITS
     },
 };
 
@@ -254,7 +254,7 @@ const LIST_NAMES: Facts = Facts {
     traits: Traits {
         uses: Some(1),
         forms: Concerned::All,
-        ..PLAIN
+        ..NO_TRAITS
     },
 };
 
@@ -269,7 +269,7 @@ const PRINT_FORM: Facts = Facts {
         forms: Concerned::First,
         needs_form: true,
         prints: true,
-        ..PLAIN
+        ..NO_TRAITS
     },
 };
 
@@ -284,7 +284,7 @@ const CALL_FORM: Facts = Facts {
         forms: Concerned::First,
         needs_form: true,
         gives: Given::Body,
-        ..PLAIN
+        ..NO_TRAITS
     },
 };
 
@@ -349,7 +349,7 @@ const CALL_RESTORE: Facts = Facts {
         forms: Concerned::First,
         needs_form: true,
         changes_forms: true,
-        ..PLAIN
+        ..NO_TRAITS
     },
 };
 
@@ -362,7 +362,7 @@ const EQUAL: Facts = Facts {
     traits: Traits {
         uses: Some(4),
         chooses: true,
-        ..PLAIN
+        ..NO_TRAITS
     },
 };
 
@@ -375,7 +375,7 @@ const GREATER: Facts = Facts {
     traits: Traits {
         uses: Some(4),
         chooses: true,
-        ..PLAIN
+        ..NO_TRAITS
     },
 };
 
@@ -421,7 +421,7 @@ const UNION: Facts = Facts {
     title: b"Boolean union",
     sentence: b"The value has each bit that A or B has.",
     group: Group::Bits,
-    traits: PLAIN,
+    traits: NO_TRAITS,
 };
 
 const INTERSECTION: Facts = Facts {
@@ -430,7 +430,7 @@ const INTERSECTION: Facts = Facts {
     title: b"Boolean intersection",
     sentence: b"The value has each bit that both A and B have.",
     group: Group::Bits,
-    traits: PLAIN,
+    traits: NO_TRAITS,
 };
 
 const COMPLEMENT: Facts = Facts {
@@ -441,7 +441,7 @@ const COMPLEMENT: Facts = Facts {
     group: Group::Bits,
     traits: Traits {
         uses: Some(1),
-        ..PLAIN
+        ..NO_TRAITS
     },
 };
 
@@ -451,7 +451,7 @@ const SHIFT: Facts = Facts {
     title: b"Boolean shift",
     sentence: b"The value is A shifted by D bits, to the left where D is positive.",
     group: Group::Bits,
-    traits: PLAIN,
+    traits: NO_TRAITS,
 };
 
 const ROTATE: Facts = Facts {
@@ -460,7 +460,7 @@ const ROTATE: Facts = Facts {
     title: b"Boolean rotate",
     sentence: b"The value is A rotated by D bits, to the left where D is positive.",
     group: Group::Bits,
-    traits: PLAIN,
+    traits: NO_TRAITS,
 };
 
 // All functions, in the order of the definition's list.
@@ -501,7 +501,7 @@ pub fn function_count() -> usize
     FUNCTIONS.len()
 }
 
-/// Function `k`, from 0. None where there are fewer.
+/// Function `k`, from 0. None if there are fewer.
 pub fn function_at(k: usize) -> Option<Function>
 {
     if k < FUNCTIONS.len() {

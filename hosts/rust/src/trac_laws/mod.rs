@@ -1,6 +1,13 @@
 // Generated from crates/trac_laws/src/lib.rt by hosts/rust/generate, and never edited.
 //! Laws of the definition: what the room and the allowance of a whole run decide, and what single steps do.
-//! Each function proves its law and does nothing.
+//! Each function proves its law and does nothing. No program runs any of it: the crate exists for the prover.
+
+mod table;
+
+pub use table::{
+    chooses, ends_only, gives_default, gives_forms, leaves_forms, leaves_input, leaves_meta,
+    leaves_others, needs_form, prints_nothing, uses_few,
+};
 
 /// A run whose fate isn't `Workspace` is the same in every larger room.
 pub fn more_room()

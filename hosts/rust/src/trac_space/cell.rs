@@ -144,7 +144,7 @@ pub(crate) fn linked(cell: Cell, place: u32, behind: u32) -> Cell
 }
 
 // The number in a call mark.
-pub(crate) fn link(cell: Cell) -> u32
+pub(crate) fn frame_link(cell: Cell) -> u32
 {
     match cell {
         Cell::Call(_, number) => number,

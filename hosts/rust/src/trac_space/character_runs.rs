@@ -8,7 +8,7 @@ use crate::trac_space::copies::BLOCK;
 // character, 1 makes it a comma mark, a higher number ends the run before it. Gives the length of the
 // run, and the place in it behind its last comma mark.
 #[inline]
-pub(crate) fn copy_turned(
+pub(crate) fn translate_run(
     cells: &mut [Cell],
     start: usize,
     to: usize,

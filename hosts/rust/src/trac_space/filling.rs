@@ -1,30 +1,30 @@
 // Generated from crates/trac_space/src/filling.rt by hosts/rust/generate, and never edited.
 //! Copies cells of the store to the front of active, and fills their gaps with what stands between comma
-//! marks. Meanwhile the places of the comma marks lie over the first cells that they part.
+//! marks. Meanwhile the places of the comma marks are the tags of the first cells that they part.
 
 use crate::trac_space::cell::{Cell, is_character, is_comma};
 use crate::trac_space::character_runs::characters_before;
 use crate::trac_space::copies::{BLOCK, HIGHER, copy_at_once, copy_short};
-use crate::trac_space::overlay::{cell_under, laid, lift, number_over_laid};
+use crate::trac_space::tags::{clear_tags, present_tag, tagged, untagged_cell};
 
 // The cells whose parts fill the gaps: where they begin in the block, how many they are, and how many
-// comma marks are among them. The places of the comma marks lie over the first of these cells.
+// comma marks are among them. The places of the comma marks are the tags of the first of these cells.
 #[derive(Clone, Copy, Debug)]
-pub(crate) struct Given {
+pub(crate) struct ArgumentTable {
     pub(crate) start: usize,
     pub(crate) len: usize,
     pub(crate) commas: usize,
 }
 
 /// Lays the places of the comma marks over the first cells, in order, and gives how many they are. None
-/// stands from place `plain` on.
+/// stands from place `no_comma_from` on.
 #[inline(always)]
-pub(crate) fn lay_commas(cells: &mut [Cell], plain: usize) -> usize
+pub(crate) fn tag_commas(cells: &mut [Cell], no_comma_from: usize) -> usize
 {
     let mut count = 0;
-    for at in 0..plain {
+    for at in 0..no_comma_from {
         if is_comma(&cells[at]) {
-            cells[count] = laid(cells[count], at as u32);
+            cells[count] = tagged(cells[count], at as u32);
             count += 1;
         }
     }
@@ -42,7 +42,7 @@ pub(crate) fn fill_cells(
     stop: usize,
     low: usize,
     to: usize,
-    given: Given,
+    given: ArgumentTable,
 ) -> Option<usize>
 {
     let mut at = stop;
@@ -64,7 +64,7 @@ pub(crate) fn fill_cells(
             return None;
         }
         to -= n;
-        put_lifted(cells, start, to, n, given);
+        put_untagged(cells, start, to, n, given);
     }
     fill_each(cells, from, at, low, to, given)
 }
@@ -77,7 +77,7 @@ fn fill_each(
     stop: usize,
     low: usize,
     to: usize,
-    given: Given,
+    given: ArgumentTable,
 ) -> Option<usize>
 {
     let mut at = stop;
@@ -89,31 +89,31 @@ fn fill_each(
             return None;
         }
         to -= n;
-        put_lifted(cells, start, to, n, given);
+        put_untagged(cells, start, to, n, given);
     }
     Some(to)
 }
 
-// Copies `n` cells to a higher place apart, without the numbers that lie over them.
+// Copies `n` cells to a higher place apart, without their tags.
 #[inline(always)]
-fn put_lifted(cells: &mut [Cell], start: usize, to: usize, n: usize, given: Given)
+fn put_untagged(cells: &mut [Cell], start: usize, to: usize, n: usize, given: ArgumentTable)
 {
-    let laid = given.start + given.commas;
-    if start >= laid {
-        put_plain(cells, start, to, n);
+    let tagged = given.start + given.commas;
+    if start >= tagged {
+        put_as_they_are(cells, start, to, n);
         return;
     }
     if n == 1 {
-        cells[to] = cell_under(cells[start]);
+        cells[to] = untagged_cell(cells[start]);
         return;
     }
     copy_short::<HIGHER>(cells, start, n, to);
-    lift(&mut cells[to..to + n.min(laid - start)]);
+    clear_tags(&mut cells[to..to + n.min(tagged - start)]);
 }
 
 // Copies `n` cells to a higher place apart. One cell, the commonest case, needs no call.
 #[inline(always)]
-fn put_plain(cells: &mut [Cell], start: usize, to: usize, n: usize)
+fn put_as_they_are(cells: &mut [Cell], start: usize, to: usize, n: usize)
 {
     if n == 1 {
         copy_at_once::<1, HIGHER>(cells, start, to);
@@ -132,7 +132,7 @@ fn distance(start: usize, to: usize) -> usize
 // Where the cells begin that stand for the one at place `at`, and how many they are: a character stands
 // for itself, the part of its ordinal for a gap.
 #[inline]
-fn filling_of(cells: &[Cell], at: usize, given: Given) -> (usize, usize)
+fn filling_of(cells: &[Cell], at: usize, given: ArgumentTable) -> (usize, usize)
 {
     if is_character(&cells[at]) {
         return (at, 1);
@@ -143,7 +143,7 @@ fn filling_of(cells: &[Cell], at: usize, given: Given) -> (usize, usize)
 // Where the part of this number, from 1, begins, and how many cells it has: none if there is no such
 // part.
 #[inline(always)]
-fn part_numbered(cells: &[Cell], number: u32, given: Given) -> (usize, usize)
+fn part_numbered(cells: &[Cell], number: u32, given: ArgumentTable) -> (usize, usize)
 {
     let place = number.wrapping_sub(1) as usize;
     if place > given.commas {
@@ -156,22 +156,22 @@ fn part_numbered(cells: &[Cell], number: u32, given: Given) -> (usize, usize)
 
 // Where the part behind `place` comma marks begins, counted from the first of the given cells.
 #[inline(always)]
-fn part_begin(cells: &[Cell], place: usize, given: Given) -> usize
+fn part_begin(cells: &[Cell], place: usize, given: ArgumentTable) -> usize
 {
     if place == 0 {
         return 0;
     }
-    number_over_laid(cells[given.start + place - 1]) as usize + 1
+    present_tag(cells[given.start + place - 1]) as usize + 1
 }
 
 // Where the part behind `place` comma marks ends, counted from the first of the given cells.
 #[inline(always)]
-fn part_end(cells: &[Cell], place: usize, given: Given) -> usize
+fn part_end(cells: &[Cell], place: usize, given: ArgumentTable) -> usize
 {
     if place == given.commas {
         return given.len;
     }
-    number_over_laid(cells[given.start + place]) as usize
+    present_tag(cells[given.start + place]) as usize
 }
 
 // The ordinal of a gap, 0 for any other cell.

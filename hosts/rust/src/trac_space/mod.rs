@@ -14,15 +14,15 @@ mod character_runs;
 mod copies;
 mod filling;
 mod neutral;
-mod overlay;
 mod part;
 mod space;
+mod tags;
 
 #[cfg(test)]
 pub use crate::stand_in::make_block;
 pub use cell::{Cell, are_characters, byte_in, character_of, is_character};
 pub use neutral::Neutral;
-pub use overlay::{cell_under, laid, number_over};
 pub use part::Part;
 pub use space::Space;
+pub use tags::{tag_or_zero, tagged, untagged_cell};
 pub use crate::trac_language::Mode;

@@ -5,9 +5,9 @@ use crate::trac_space::cell::Cell;
 
 mod active_string;
 mod calls;
+mod index_area;
 mod moves;
 mod neutral_string;
-mod spare;
 mod store;
 
 /// Three lists of cells in one lent block: the store at the left end, the neutral string behind it, and
@@ -16,19 +16,19 @@ mod store;
 /// Places and lengths count cells. A move needs no free cell and can't fail. A call that adds cells
 /// answers whether they fit; if they don't, nothing has changed.
 ///
-/// A fourth list, the spare list, stands behind the active string. Its cells count as free. A call that
-/// adds cells keeps the spare list if they fit beside it, and drops it if they fit only without it; the
-/// contracts say so by `claimed`. Apart from these, only the calls named after the spare list change it.
+/// A fourth list, the index area, stands behind the active string. Its cells count as free. A call that
+/// adds cells keeps the index area if they fit beside it, and drops it if they fit only without it; the
+/// contracts say so by `reserved`. Apart from these, only the calls named after the index area change it.
 /// No answer, and nothing in the three lists, depends on it.
 pub struct Space<'a> {
     cells: &'a mut [Cell],
     store: u32,
     neutral: u32,
     active: u32,
-    // Where active ends and the spare list begins.
+    // Where active ends and the index area begins.
     end: u32,
     // The place in neutral behind its last call mark, 0 if it has none.
-    behind_mark: u32,
+    top_frame: u32,
 }
 
 impl<'a> Space<'a> {
@@ -44,7 +44,7 @@ impl<'a> Space<'a> {
             neutral: 0,
             active: 0,
             end,
-            behind_mark: 0,
+            top_frame: 0,
         }
     }
 
@@ -62,7 +62,7 @@ impl<'a> Space<'a> {
         self.store + self.neutral + self.active
     }
 
-    /// How many cells are free; those of the spare list count as free.
+    /// How many cells are free; those of the index area count as free.
     #[inline]
     pub fn free(&self) -> u32
     {

@@ -1,10 +1,10 @@
 // Generated from crates/trac_store/src/borders.rt by hosts/rust/generate, and never edited.
 //! Searches for a text in one pass, by the method of Knuth, Morris and Pratt. A border of a beginning of
 //! the text is a shorter beginning that also ends it; where the text doesn't go on, the search goes on
-//! from the border. The lengths of the borders lie over the cells of the text while the search runs.
+//! from the border. The lengths of the borders are tags of the text's cells while the search runs.
 
 use crate::trac_store::gap_making::is_same_byte;
-use crate::trac_space::{Cell, Part, Space, cell_under, laid, number_over};
+use crate::trac_space::{Cell, Part, Space, tag_or_zero, tagged, untagged_cell};
 
 // The length of the longest beginning of the text that ends with `cell`, if the longest one that ends
 // just before it has `before` characters.
@@ -12,17 +12,17 @@ use crate::trac_space::{Cell, Part, Space, cell_under, laid, number_over};
 fn next_border(text: &[Cell], before: u32, cell: Cell) -> u32
 {
     let mut border = before;
-    while !is_same_byte(cell, cell_under(text[border as usize])) {
+    while !is_same_byte(cell, untagged_cell(text[border as usize])) {
         if border == 0 {
             return 0;
         }
-        border = number_over(text[border as usize - 1]);
+        border = tag_or_zero(text[border as usize - 1]);
     }
     border + 1
 }
 
 // The first place at `from` or after where the text stands among the cells. None if there is none. The
-// borders of the text lie over it.
+// borders of the text are its tags.
 pub(crate) fn first_place(cells: &[Cell], from: u32, text: &[Cell]) -> Option<u32>
 {
     let mut before = 0;
@@ -37,13 +37,13 @@ pub(crate) fn first_place(cells: &[Cell], from: u32, text: &[Cell]) -> Option<u3
 
 // Lays the length of the longest border of each beginning of a text, a part of neutral, over the last
 // cell of that beginning.
-pub(crate) fn lay_borders(space: &mut Space, part: Part)
+pub(crate) fn tag_borders(space: &mut Space, part: Part)
 {
     let mut border = 0;
     for count in 1..part.to - part.from {
         let text = space.neutral_part(part.from, part.to);
         let cell = text[count as usize];
         border = next_border(text, border, cell);
-        space.write_neutral(part.from + count, laid(cell, border));
+        space.write_neutral(part.from + count, tagged(cell, border));
     }
 }

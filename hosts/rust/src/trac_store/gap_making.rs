@@ -1,7 +1,7 @@
 // Generated from crates/trac_store/src/gap_making.rt by hosts/rust/generate, and never edited.
 //! Segmenting: gaps among the cells of the store (Mooers 1966).
 
-use crate::trac_store::borders::{first_place, lay_borders};
+use crate::trac_store::borders::{first_place, tag_borders};
 use crate::trac_space::{Cell, Part, Space};
 
 // Whether `cell` is a character, the one that `byte` holds.
@@ -16,7 +16,7 @@ pub(crate) fn is_same_byte(cell: Cell, byte: Cell) -> bool
 }
 
 // The first place in a part of the store where the text stands. None if there is none. The borders of the
-// text lie over it.
+// text are its tags.
 fn next_place(space: &Space, body: Part, text: Part) -> Option<u32>
 {
     let cells = space.store_part(body.from, body.to);
@@ -27,7 +27,7 @@ fn next_place(space: &Space, body: Part, text: Part) -> Option<u32>
 }
 
 // Replaces each occurrence of the text in a part of the store by a gap, and gives the new end of the
-// part. The borders of the text lie over it.
+// part. The borders of the text are its tags.
 fn make_gaps(space: &mut Space, body: Part, text: Part, ordinal: u32) -> u32
 {
     let to = body.to;
@@ -54,8 +54,8 @@ pub fn segment_store(space: &mut Space, body: Part, text: Part, ordinal: u32) ->
     if text.from == text.to {
         return body.to;
     }
-    lay_borders(space, text);
+    tag_borders(space, text);
     let end = make_gaps(space, body, text, ordinal);
-    space.lift_neutral(text.from, text.to);
+    space.clear_neutral_tags(text.from, text.to);
     end
 }

@@ -5,10 +5,10 @@ use crate::trac_space::{Part, Space};
 
 /// Copies items of the store to the front of active, each gap k replaced by argument k: the k-th, from 1,
 /// of the texts between the comma marks of a part of neutral, or nothing if there is no such text (Mooers
-/// 1966). No comma mark stands in that part from place `plain` on. Gives how many characters the copy has.
-/// None if it doesn't fit; then at most the spare list has been dropped.
+/// 1966). No comma mark stands in that part from place `no_comma_from` on. Gives how many characters the copy has.
+/// None if it doesn't fit; then at most the index area has been dropped.
 #[inline(always)]
-pub fn fill_items(space: &mut Space, items: Part, texts: Part, plain: u32) -> Option<u32>
+pub fn fill_items(space: &mut Space, items: Part, texts: Part, no_comma_from: u32) -> Option<u32>
 {
     // A form that is called without arguments mostly has no gaps.
     if texts.to < texts.from {
@@ -17,7 +17,7 @@ pub fn fill_items(space: &mut Space, items: Part, texts: Part, plain: u32) -> Op
             return loaded;
         }
     }
-    fill_gaps(space, items, texts, plain)
+    fill_gaps(space, items, texts, no_comma_from)
 }
 
 // Copies items of the store to the front of active if all of them are characters and fit, and gives how
@@ -29,8 +29,8 @@ fn load_items(space: &mut Space, items: Part) -> Option<u32>
     if size == 0 {
         return Some(0);
     }
-    if space.free_beside_spare() < size {
-        return load_items_over_spare(space, items);
+    if space.free_beside_index() < size {
+        return load_items_over_index(space, items);
     }
     if space.load_characters(items.from, items.to) {
         Some(size)
@@ -39,38 +39,38 @@ fn load_items(space: &mut Space, items: Part) -> Option<u32>
     }
 }
 
-// Does what `load_items` does where the items don't fit beside the spare list.
+// Does what `load_items` does where the items don't fit beside the index area.
 #[inline(never)]
-fn load_items_over_spare(space: &mut Space, items: Part) -> Option<u32>
+fn load_items_over_index(space: &mut Space, items: Part) -> Option<u32>
 {
     let size = items.to - items.from;
     if space.characters_from(items.from, items.to) < size || space.free() < size {
         return None;
     }
-    space.claim(size);
+    space.reserve(size);
     space.load_from_store(items.from, items.to);
     Some(size)
 }
 
 // Does what `fill_items` does where gaps may be among the items. Meanwhile the places of the comma marks
-// lie over the texts.
+// are tags of the texts.
 #[inline(never)]
-fn fill_gaps(space: &mut Space, items: Part, texts: Part, plain: u32) -> Option<u32>
+fn fill_gaps(space: &mut Space, items: Part, texts: Part, no_comma_from: u32) -> Option<u32>
 {
     let first = texts.from.min(texts.to);
-    let commas = space.lay_commas(first, texts.to, plain);
+    let commas = space.tag_commas(first, texts.to, no_comma_from);
     let given = Part {
         from: first,
         to: texts.to,
     };
     let loaded = load_filled(space, items, given, commas);
-    space.lift_neutral(first, first + commas);
+    space.clear_neutral_tags(first, first + commas);
     loaded
 }
 
 // Copies items of the store to the front of active, each gap k replaced by argument k: the k-th part, from
 // 1, of the given cells of neutral, over which the places of their `commas` comma marks lie. Gives how many
-// cells the copy has, None if it doesn't fit. Drops the spare list if the copy doesn't fit beside it.
+// cells the copy has, None if it doesn't fit. Drops the index area if the copy doesn't fit beside it.
 #[inline(always)]
 fn load_filled(space: &mut Space, items: Part, given: Part, commas: u32) -> Option<u32>
 {
@@ -78,6 +78,6 @@ fn load_filled(space: &mut Space, items: Part, given: Part, commas: u32) -> Opti
     if loaded.is_some() {
         return loaded;
     }
-    space.drop_spare();
+    space.drop_index_area();
     space.load_filled(items.from, items.to, given.from, given.to, commas)
 }

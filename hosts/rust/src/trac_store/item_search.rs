@@ -1,7 +1,7 @@
 // Generated from crates/trac_store/src/item_search.rt by hosts/rust/generate, and never edited.
 //! Finds gaps, characters and texts among the cells of a body.
 
-use crate::trac_store::borders::{first_place, lay_borders};
+use crate::trac_store::borders::{first_place, tag_borders};
 use crate::trac_space::{Cell, Part, Space, is_character};
 
 // Whether the cell is a gap.
@@ -54,9 +54,9 @@ pub fn last_character(cells: &[Cell], from: u32) -> Option<u32>
 /// two over the text. Afterwards nothing has changed.
 pub fn find_text(space: &mut Space, body: Part, from: u32, part: Part) -> Option<u32>
 {
-    lay_borders(space, part);
+    tag_borders(space, part);
     let text = space.neutral_part(part.from, part.to);
     let found = first_place(space.store_part(body.from, body.to), from, text);
-    space.lift_neutral(part.from, part.to);
+    space.clear_neutral_tags(part.from, part.to);
     found
 }

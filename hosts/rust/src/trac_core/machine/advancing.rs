@@ -5,7 +5,7 @@ use super::{Counters, Machine, ended};
 use crate::trac_core::idling::{IDLING_STEPS, begin_idling, may_begin_idling};
 use crate::trac_core::performer::{Alone, Performer};
 use crate::trac_core::run_hints::RunHints;
-use crate::trac_core::scan::{Pending, scan_steps};
+use crate::trac_core::scan::{NextAction, scan_steps};
 use crate::trac_forms::Work;
 use crate::trac_language::{Fate, Function, Report};
 
@@ -14,7 +14,7 @@ use crate::trac_language::{Fate, Function, Report};
 pub struct Progress {
     /// The steps that were done and after which the run went on.
     pub done: u64,
-    /// The function of the call that it stopped before, which reads or prints. `None` where it stopped
+    /// The function of the call that it stopped before, which reads or prints. `None` if it stopped
     /// before a call of no function, or for another reason.
     pub next: Option<Function>,
 }
@@ -24,7 +24,7 @@ pub struct Progress {
 pub(super) struct Advance {
     progress: Progress,
     /// A place of the neutral string from which on no comma mark stands.
-    plain: u32,
+    no_comma_from: u32,
     /// The steps and the peak that are counted then, and how the run ended, if it did.
     steps: u64,
     peak: u32,
@@ -67,11 +67,11 @@ impl<'a> Machine<'a> {
             steps: self.steps,
             peak: self.peak,
         };
-        let plain = self.plain;
+        let no_comma_from = self.no_comma_from;
         let to = go_on(
             &mut self.work,
             &mut self.meta,
-            plain,
+            no_comma_from,
             at,
             most,
             performer,
@@ -81,19 +81,19 @@ impl<'a> Machine<'a> {
         self.steps = to.steps;
         self.peak = to.peak;
         self.fate = to.fate;
-        self.plain = to.plain;
+        self.no_comma_from = to.no_comma_from;
         to.progress
     }
 }
 
 /// Makes at most `most` steps of a run that isn't over and has these counters. They are single values
-/// here, and no part of a machine, so that they need not stand in memory. From the plain place on no
+/// here, and no part of a machine, so that they need not stand in memory. From place `no_comma_from` on no
 /// comma mark stands in the neutral string.
 #[inline(never)]
 fn go_on<I, O, P: Performer<I, O>>(
     work: &mut Work,
     meta: &mut u8,
-    plain: u32,
+    no_comma_from: u32,
     at: Counters,
     most: u64,
     performer: P,
@@ -106,21 +106,21 @@ fn go_on<I, O, P: Performer<I, O>>(
     let mut peak = at.peak;
     // The cells of the first step since a call: those that perform none need no more than it does.
     let mut need = work.used();
-    let mut hints = RunHints::new(plain);
+    let mut hints = RunHints::new(no_comma_from);
     while left > 0 {
         match scan_steps(work, left, &mut hints) {
             Ok(done) => {
                 left -= done;
                 peak = peak.max(need);
             }
-            Err(Pending::Idling) if may_begin_idling(work, left) => {
+            Err(NextAction::Idling) if may_begin_idling(work, left) => {
                 peak = peak.max(begin_idling(work));
                 left -= IDLING_STEPS;
                 need = work.used();
                 hints = RunHints::new(work.neutral_len());
             }
-            Err(pending) => {
-                let last = match performer.perform(work, pending, meta, source, sink) {
+            Err(action) => {
+                let last = match performer.perform(work, action, meta, source, sink) {
                     Ok(last) => last,
                     Err(function) => return going(reach - left, function, hints, at.steps, peak),
                 };
@@ -138,25 +138,25 @@ fn go_on<I, O, P: Performer<I, O>>(
     going(reach, None, hints, at.steps, peak)
 }
 
-/// `done` steps, behind which the run is over with this report.
-fn over(done: u64, plain: u32, report: Report) -> Advance
+/// The advance of `done` steps, after which the run is over with this report.
+fn over(done: u64, no_comma_from: u32, report: Report) -> Advance
 {
     Advance {
         progress: Progress { done, next: None },
-        plain,
+        no_comma_from,
         steps: report.steps,
         peak: report.peak,
         fate: Some(report.fate),
     }
 }
 
-/// `done` steps after `steps` others, with this peak, and what the next one performs; the run goes
+/// The advance of `done` steps after `steps` others, with this peak, and what the next one performs; the run goes
 /// on.
 fn going(done: u64, next: Option<Function>, hints: RunHints, steps: u64, peak: u32) -> Advance
 {
     Advance {
         progress: Progress { done, next },
-        plain: hints.plain_from,
+        no_comma_from: hints.no_comma_from,
         steps: steps + done,
         peak,
         fate: None,

@@ -4,8 +4,8 @@
 use super::Machine;
 use super::changing::Refused;
 use super::closing::{closed_call, named_at};
-use crate::trac_core::attempt::Attempt;
 use crate::trac_core::delivery::{is_active_call, move_value};
+use crate::trac_core::outcome::StepOutcome;
 use crate::trac_forms::Work;
 use crate::trac_language::Fate;
 
@@ -42,41 +42,41 @@ impl<'a> Machine<'a> {
         if self.steps == self.allowance {
             return false;
         }
-        unknown_call(&self.work, self.plain).is_some()
+        unknown_call(&self.work, self.no_comma_from).is_some()
     }
 
-    /// Makes the next step, which performs a call whose name is no function, with this value in the place of the
-    /// null one. `how` says where the value goes. The answer is that of `step`: None where the step was done. The
-    /// step needs the cells of all strings and forms but one, and one for each byte of the value; where these are
-    /// more than the block has the run ends, and so it does with the allowance used up. `Refused`, with
-    /// nothing changed, where the next step performs no such call, and where the run is over. This
+    /// Makes the next step, which performs a call whose name is no function, and gives the call this value
+    /// instead of the null one. `how` says where the value goes. The answer is that of `step`: None if the step
+    /// was done. The step needs the cells of all strings and forms but one, and one for each byte of the value. If
+    /// these are more than the block has, or the allowance is used up, the run ends. `Refused`, with
+    /// nothing changed, if the next step performs no such call, and where the run is over. This
     /// processor's own choice.
     pub fn answer(&mut self, value: &[u8], how: Delivery) -> Result<Option<Fate>, Refused>
     {
         if self.fate.is_some() {
             return Err(Refused);
         }
-        let Some(place) = unknown_call(&self.work, self.plain) else {
+        let Some(place) = unknown_call(&self.work, self.no_comma_from) else {
             return Err(Refused);
         };
         if self.steps == self.allowance {
             self.fate = Some(Fate::Steps);
             return Ok(self.fate);
         }
-        let attempt = end_answered(&mut self.work, place, value, how);
-        self.plain = self.work.neutral_len();
-        Ok(self.count(attempt))
+        let outcome = end_answered(&mut self.work, place, value, how);
+        self.no_comma_from = self.work.neutral_len();
+        Ok(self.count(outcome))
     }
 }
 
-/// Where the mark stands of the call of no function that a step over these contents performs. None where it performs
-/// no call, or one of a function. From the plain place on no comma mark stands in the neutral string.
-fn unknown_call(work: &Work, plain: u32) -> Option<u32>
+/// Where the mark stands of the call of no function that a step over these contents performs. None if it performs
+/// no call, or one of a function. From place `no_comma_from` on no comma mark stands in the neutral string.
+fn unknown_call(work: &Work, no_comma_from: u32) -> Option<u32>
 {
     let Some(place) = closed_call(work) else {
         return None;
     };
-    if named_at(work, place, plain).0.is_some() {
+    if named_at(work, place, no_comma_from).0.is_some() {
         return None;
     }
     Some(place)
@@ -84,10 +84,10 @@ fn unknown_call(work: &Work, plain: u32) -> Option<u32>
 
 /// Deletes the right parenthesis that ends the innermost call, whose mark stands at the place, and has the call leave
 /// with the value. Where the value doesn't fit, nothing is done.
-fn end_answered(work: &mut Work, place: u32, value: &[u8], how: Delivery) -> Attempt
+fn end_answered(work: &mut Work, place: u32, value: &[u8], how: Delivery) -> StepOutcome
 {
     if value.len() > work.free() as usize + 1 {
-        return Attempt {
+        return StepOutcome {
             fate: Some(Fate::Workspace),
             need: 0,
         };
@@ -98,7 +98,7 @@ fn end_answered(work: &mut Work, place: u32, value: &[u8], how: Delivery) -> Att
     let fits = work.push_bytes(value);
     let need = work.used();
     move_value(work, place, end, scanned);
-    Attempt { fate: None, need }
+    StepOutcome { fate: None, need }
 }
 
 /// Whether the host's value goes before the active string, where `active` says whether the call is an active one.

@@ -8,12 +8,12 @@ use crate::trac_forms::{Cell, Work};
 use crate::trac_functions::arguments::text;
 
 impl<'a> Machine<'a> {
-    /// How many arguments the call has that the next step performs, its name counted and null ones too. 0 where that
+    /// How many arguments the call has that the next step performs, its name counted and null ones too. 0 if that
     /// step performs no call, as `next_call` says. This processor's own choice.
     pub fn argument_count(&self) -> u32
     {
         if self.fate.is_none() && self.steps < self.allowance {
-            performed_count(&self.work, self.plain)
+            performed_count(&self.work, self.no_comma_from)
         } else {
             0
         }
@@ -25,31 +25,31 @@ impl<'a> Machine<'a> {
     pub fn argument(&self, which: u32) -> Option<&[Cell]>
     {
         if self.fate.is_none() && self.steps < self.allowance {
-            performed_argument(&self.work, self.plain, which)
+            performed_argument(&self.work, self.no_comma_from, which)
         } else {
             None
         }
     }
 }
 
-/// How many arguments the call has that a step over these contents performs, the name counted; 0 where it performs
-/// none. From the plain place on no comma mark stands in the neutral string.
-fn performed_count(work: &Work, plain: u32) -> u32
+/// How many arguments the call has that a step over these contents performs, the name counted; 0 if it performs
+/// none. From place `no_comma_from` on no comma mark stands in the neutral string.
+fn performed_count(work: &Work, no_comma_from: u32) -> u32
 {
     match closed_call(work) {
         None => 0,
-        Some(place) => arguments_left(work, arguments_at(work, place, plain)),
+        Some(place) => arguments_left(work, arguments_at(work, place, no_comma_from)),
     }
 }
 
-/// An argument of the call that a step over these contents performs, the name being argument 0. From the plain place on
-/// no comma mark stands in the neutral string.
-fn performed_argument<'w>(work: &'w Work, plain: u32, which: u32) -> Option<&'w [Cell]>
+/// An argument of the call that a step over these contents performs, the name being argument 0. From place
+/// `no_comma_from` on no comma mark stands in the neutral string.
+fn performed_argument<'w>(work: &'w Work, no_comma_from: u32, which: u32) -> Option<&'w [Cell]>
 {
     let Some(place) = closed_call(work) else {
         return None;
     };
-    let mut arguments = arguments_at(work, place, plain);
+    let mut arguments = arguments_at(work, place, no_comma_from);
     for _before in 0..which {
         if arguments.is_empty() {
             return None;

@@ -29,7 +29,7 @@ pub struct CallMark {
 /// The call that the next step performs.
 #[derive(Clone, Copy, Debug)]
 pub struct NextCall {
-    /// The function that the call names. `None` where no function has the name.
+    /// The function that the call names. `None` if no function has the name.
     pub function: Option<Function>,
     /// How many arguments stand behind the name, null ones counted: one for each comma mark of the
     /// call, so 0 without a comma. They are counted too where no function has the name.
@@ -55,28 +55,28 @@ impl<'a> Machine<'a> {
     }
 
     /// The call that the next step performs, for a host that shows or counts calls before they are
-    /// performed. None where that step performs no call: the active string begins with no right
+    /// performed. None if that step performs no call: the active string begins with no right
     /// parenthesis, or no call is open. None too where there is no next step: the run is over, or the
     /// allowance is used up. A call that the step then refuses, since the cells are too few, is given.
     /// Looks at the arguments of that call and at the mark of each open call. This processor's own choice.
     pub fn next_call(&self) -> Option<NextCall>
     {
         if self.fate.is_none() && self.steps < self.allowance {
-            performed_call(&self.work, self.plain)
+            performed_call(&self.work, self.no_comma_from)
         } else {
             None
         }
     }
 }
 
-/// The call that a step over these contents performs. From the plain place on no comma mark stands in
+/// The call that a step over these contents performs. From place `no_comma_from` on no comma mark stands in
 /// the neutral string.
-fn performed_call(work: &Work, plain: u32) -> Option<NextCall>
+fn performed_call(work: &Work, no_comma_from: u32) -> Option<NextCall>
 {
     let Some(place) = closed_call(work) else {
         return None;
     };
-    let (function, arguments) = named_at(work, place, plain);
+    let (function, arguments) = named_at(work, place, no_comma_from);
     let arguments = arguments_left(work, arguments);
     let depth = calls_around(work, place);
     Some(NextCall {

@@ -4,9 +4,9 @@
 use super::Machine;
 use super::changing::Refused;
 use super::closing::{closed_call, named_at};
-use crate::trac_core::attempt::Attempt;
 use crate::trac_core::delivery::finish_call;
 use crate::trac_core::display::display_len;
+use crate::trac_core::outcome::StepOutcome;
 use crate::trac_core::scan::InnermostCall;
 use crate::trac_forms::Work;
 use crate::trac_functions::arguments::CallResult;
@@ -14,7 +14,7 @@ use crate::trac_language::Function;
 use crate::trac_space::Part;
 
 impl<'a> Machine<'a> {
-    /// How many bytes the next step prints: by `ps` or `pf`, whatever the input. 0 where it prints
+    /// How many bytes the next step prints: by `ps` or `pf`, whatever the input. 0 if it prints
     /// nothing, and where the run is over or the allowance is used up. This processor's own choice.
     pub fn prints(&mut self) -> u32
     {
@@ -24,7 +24,7 @@ impl<'a> Machine<'a> {
         if self.steps == self.allowance {
             return 0;
         }
-        printed_len(&mut self.work, self.plain)
+        printed_len(&mut self.work, self.no_comma_from)
     }
 
     /// How many bytes the next step prints, as `prints` counts them, where they are more than `free`.
@@ -33,7 +33,7 @@ impl<'a> Machine<'a> {
     pub fn prints_past(&mut self, function: Option<Function>, free: u64) -> Option<u32>
     {
         if prints(function) {
-            printed_past(&mut self.work, self.plain, function, free)
+            printed_past(&mut self.work, self.no_comma_from, function, free)
         } else {
             None
         }
@@ -42,7 +42,7 @@ impl<'a> Machine<'a> {
 
 impl<'a> Machine<'a> {
     /// Makes the next step, which prints, and drops what it prints: a host that took it in pieces goes on so.
-    /// `Refused`, with nothing changed, where that step prints nothing, the run is over, or the allowance is
+    /// `Refused`, with nothing changed, if that step prints nothing, the run is over, or the allowance is
     /// used up. This processor's own choice.
     pub fn skip_print(&mut self) -> Result<(), Refused>
     {
@@ -50,20 +50,20 @@ impl<'a> Machine<'a> {
         if !prints(function) {
             return Err(Refused);
         }
-        let Some(attempt) = skip_printing(&mut self.work, self.plain) else {
+        let Some(outcome) = skip_printing(&mut self.work, self.no_comma_from) else {
             return Err(Refused);
         };
-        self.plain = self.work.neutral_len();
-        self.count(attempt);
+        self.no_comma_from = self.work.neutral_len();
+        self.count(outcome);
         Ok(())
     }
 }
 
 /// Makes a step that performs a call of a function that prints, and drops what it prints. None, with nothing changed,
-/// where it prints nothing. From the plain place on no comma mark stands in the neutral string.
-fn skip_printing(work: &mut Work, plain: u32) -> Option<Attempt>
+/// where it prints nothing. From place `no_comma_from` on no comma mark stands in the neutral string.
+fn skip_printing(work: &mut Work, no_comma_from: u32) -> Option<StepOutcome>
 {
-    if printed_len(work, plain) == 0 {
+    if printed_len(work, no_comma_from) == 0 {
         return None;
     }
     let Some(place) = closed_call(work) else {
@@ -74,7 +74,7 @@ fn skip_printing(work: &mut Work, plain: u32) -> Option<Attempt>
 
 /// Deletes the right parenthesis that ends the innermost call, which prints, and has the call leave with its null
 /// value.
-fn end_printing(work: &mut Work, place: u32) -> Attempt
+fn end_printing(work: &mut Work, place: u32) -> StepOutcome
 {
     work.drop_active(1);
     let before = work.used();
@@ -93,12 +93,25 @@ fn prints(function: Option<Function>) -> bool
 }
 
 /// How many bytes a step over these contents prints, which performs this function, where they are
-/// more than `free`. From the plain place on no comma mark stands in the neutral string.
-fn printed_past(work: &mut Work, plain: u32, function: Option<Function>, free: u64) -> Option<u32>
+/// more than `free`. From place `no_comma_from` on no comma mark stands in the neutral string.
+fn printed_past(
+    work: &mut Work,
+    no_comma_from: u32,
+    function: Option<Function>,
+    free: u64,
+) -> Option<u32>
 {
     match closed_call(work) {
         None => None,
-        Some(place) => call_past(work, InnermostCall { place, plain }, function, free),
+        Some(place) => call_past(
+            work,
+            InnermostCall {
+                place,
+                no_comma_from,
+            },
+            function,
+            free,
+        ),
     }
 }
 
@@ -134,20 +147,26 @@ fn displays(function: Option<Function>) -> bool
     }
 }
 
-/// How many bytes a step over these contents prints. From the plain place on no comma mark stands in
+/// How many bytes a step over these contents prints. From place `no_comma_from` on no comma mark stands in
 /// the neutral string.
-fn printed_len(work: &mut Work, plain: u32) -> u32
+fn printed_len(work: &mut Work, no_comma_from: u32) -> u32
 {
     match closed_call(work) {
         None => 0,
-        Some(place) => call_len(work, InnermostCall { place, plain }),
+        Some(place) => call_len(
+            work,
+            InnermostCall {
+                place,
+                no_comma_from,
+            },
+        ),
     }
 }
 
 /// How many bytes the innermost call prints.
 fn call_len(work: &mut Work, call: InnermostCall) -> u32
 {
-    let (function, mut arguments) = named_at(work, call.place, call.plain);
+    let (function, mut arguments) = named_at(work, call.place, call.no_comma_from);
     let part = arguments.next(work);
     match function {
         None => 0,

@@ -25,7 +25,7 @@ impl<'a> Machine<'a> {
     {
         self.work.clear_active();
         self.work.clear_neutral();
-        self.plain = 0;
+        self.no_comma_from = 0;
         self.allowance = steps;
         self.steps = 0;
         self.peak = 0;
@@ -61,7 +61,7 @@ impl<'a> Machine<'a> {
         self.work.listed_at(k)
     }
 
-    /// The form whose name is these characters, a cell for each, to be looked at. `None` where no form
+    /// The form whose name is these characters, a cell for each, to be looked at. `None` if no form
     /// has the name. The machine finds it as its own calls find forms, so that it need not look at each.
     pub fn form_named(&self, name: &[Cell]) -> Option<StoredForm<'_>>
     {
@@ -86,25 +86,25 @@ impl<'a> Machine<'a> {
         }
     }
 
-    /// The function that the next step performs. `None` where it performs no call, or one whose name
+    /// The function that the next step performs. `None` if it performs no call, or one whose name
     /// no function has, and where there is no next step: the run is over, or the allowance is used up.
     /// This processor's own choice.
     pub fn next_function(&self) -> Option<Function>
     {
         if self.fate.is_none() && self.steps < self.allowance {
-            performed(&self.work, self.plain)
+            performed(&self.work, self.no_comma_from)
         } else {
             None
         }
     }
 }
 
-/// The function that a step over these contents performs. From the plain place on no comma mark
+/// The function that a step over these contents performs. From place `no_comma_from` on no comma mark
 /// stands in the neutral string.
-fn performed(work: &Work, plain: u32) -> Option<Function>
+fn performed(work: &Work, no_comma_from: u32) -> Option<Function>
 {
     match closed_call(work) {
         None => None,
-        Some(place) => named_at(work, place, plain).0,
+        Some(place) => named_at(work, place, no_comma_from).0,
     }
 }

@@ -51,7 +51,7 @@ fn index_is_kept() {
     let used = work.used();
     wants_index(&mut work);
     assert!(are_forms(&mut work, b"ABCDEFGHIJKLM"));
-    assert!(work.space.spare_len() == 256);
+    assert!(work.space.index_area_len() == 256);
     assert!(work.used() == used);
     let Some(form) = find(&mut work, part(b'B')) else {
         panic!("no form")
@@ -73,7 +73,7 @@ fn index_is_kept() {
             && matches!(super::item(&work, form, 1), Some(Item::Gap(1)))
     );
     assert!(are_forms(&mut work, b"ACEFGHIJKLMD"));
-    assert!(work.space.spare_len() == 256);
+    assert!(work.space.index_area_len() == 256);
 }
 
 #[test]
@@ -82,14 +82,14 @@ fn index_is_made_by_searches() {
     let mut work = with_forms(&mut block, 24);
     let mut made = 0;
     for search in 0..200u32 {
-        if made == 0 && work.space.spare_len() > 0 {
+        if made == 0 && work.space.index_area_len() > 0 {
             made = search;
         }
         // eleven forms behind the last one, or before it
         let letter = b'A' + (search * 11 % 24) as u8;
         assert!(find(&mut work, part(letter)).is_some());
     }
-    assert!(work.space.spare_len() == 128);
+    assert!(work.space.index_area_len() == 128);
     // the first searches don't make the index; about as many as it costs do
     assert!(8 < made && made < 100);
 }
@@ -102,9 +102,9 @@ fn index_grows() {
     for letter in b"MNOP" {
         assert!(define_letter(&mut work, *letter));
     }
-    assert!(work.space.spare_len() == 64);
+    assert!(work.space.index_area_len() == 64);
     assert!(define_letter(&mut work, b'Q'));
-    assert!(work.space.spare_len() == 128);
+    assert!(work.space.index_area_len() == 128);
     assert!(are_forms(&mut work, b"ABCDEFGHIJKLMNOPQ"));
 }
 
@@ -117,9 +117,9 @@ fn index_is_outgrown_and_cleared() {
     for letter in b"MNOP" {
         assert!(define_letter(&mut work, *letter));
     }
-    assert!(work.space.spare_len() == 64);
+    assert!(work.space.index_area_len() == 64);
     assert!(define_letter(&mut work, b'Q'));
-    assert!(work.space.spare_len() == 0);
+    assert!(work.space.index_area_len() == 0);
     assert!(are_forms(&mut work, b"ABCDEFGHIJKLMNOPQ"));
     let Some(form) = find(&mut work, part(b'Q')) else {
         panic!("no form")
@@ -128,15 +128,15 @@ fn index_is_outgrown_and_cleared() {
     work.delete(form);
     wants_index(&mut work);
     assert!(are_forms(&mut work, b"ABCDEFGHIJKLMNOP"));
-    assert!(work.space.spare_len() == 128);
+    assert!(work.space.index_area_len() == 128);
     work.delete_all();
-    assert!(work.space.spare_len() == 128);
+    assert!(work.space.index_area_len() == 128);
     assert!(are_forms(&mut work, b""));
     assert!(define_letter(&mut work, b'Z'));
     assert!(are_forms(&mut work, b"Z"));
     // a table far too large for the forms is dropped
     work.delete_all();
-    assert!(work.space.spare_len() == 0);
+    assert!(work.space.index_area_len() == 0);
 }
 
 #[test]
@@ -148,14 +148,14 @@ fn index_gives_way() {
     work.clear_active();
     assert!(work.load_active(b"active"));
     let free = work.free();
-    assert!(work.space.spare_len() == 64 && free == 194);
+    assert!(work.space.index_area_len() == 64 && free == 194);
     for _ in 0..130 {
         assert!(work.push_neutral(Cell::Comma));
     }
-    assert!(work.space.spare_len() == 64);
+    assert!(work.space.index_area_len() == 64);
     for _ in 130..194 {
         assert!(work.push_neutral(Cell::Comma));
-        assert!(work.space.spare_len() == 0);
+        assert!(work.space.index_area_len() == 0);
     }
     assert!(!work.push_neutral(Cell::Comma) && work.free() == 0);
     assert!(are_forms(&mut work, b"ABCDEFGHIJKLM"));
@@ -170,12 +170,12 @@ fn no_index_where_it_does_not_fit_twice() {
     assert!(work.free() == 127);
     wants_index(&mut work);
     assert!(are_forms(&mut work, b"ABCDEFGHIJKLM"));
-    assert!(work.space.spare_len() == 0);
+    assert!(work.space.index_area_len() == 0);
     let mut block = [Cell::Gap(7); 248];
     let mut work = with_forms(&mut block, 13);
     wants_index(&mut work);
     assert!(are_forms(&mut work, b"ABCDEFGHIJKLM"));
-    assert!(work.space.spare_len() == 64);
+    assert!(work.space.index_area_len() == 64);
 }
 
 #[test]
@@ -184,5 +184,5 @@ fn no_index_of_few_forms() {
     let mut work = with_forms(&mut block, 11);
     wants_index(&mut work);
     assert!(are_forms(&mut work, b"ABCDEFGHIJK"));
-    assert!(work.space.spare_len() == 0);
+    assert!(work.space.index_area_len() == 0);
 }

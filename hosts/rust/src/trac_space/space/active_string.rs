@@ -6,7 +6,7 @@ use crate::trac_space::byte_writing::write_bytes;
 use crate::trac_space::cell::Cell;
 use crate::trac_space::character_runs::{are_all_characters, characters_from};
 use crate::trac_space::copies::{HIGHER, copy_apart};
-use crate::trac_space::filling::{Given, fill_cells};
+use crate::trac_space::filling::{ArgumentTable, fill_cells};
 
 impl<'a> Space<'a> {
     /// How many characters stand in a row from place `a` of the store on; counts up to place `b`.
@@ -18,14 +18,14 @@ impl<'a> Space<'a> {
 
     /// Copies the cells of the store from place `a` up to `b` to the front of active, each gap k replaced
     /// by argument k: the k-th part, from 1, between the comma marks of neutral from place `first` up to
-    /// `end`. These are `commas` marks, whose places `lay_commas` laid there. Gives how many cells these
-    /// are. None, with nothing changed, if the copy doesn't fit beside the spare list.
+    /// `end`. These are `commas` marks, whose places `tag_commas` put there as tags. Gives how many cells these
+    /// are. None, with nothing changed, if the copy doesn't fit beside the index area.
     #[inline(always)]
     pub fn load_filled(&mut self, a: u32, b: u32, first: u32, end: u32, commas: u32) -> Option<u32>
     {
         let low = (self.store + self.neutral) as usize;
         let to = (self.end - self.active) as usize;
-        let given = Given {
+        let given = ArgumentTable {
             start: (self.store + first) as usize,
             len: (end - first) as usize,
             commas: commas as usize,
@@ -56,14 +56,14 @@ impl<'a> Space<'a> {
     /// they don't fit.
     pub fn load_active(&mut self, text: &[u8]) -> bool
     {
-        if !self.try_claim(text.len()) {
+        if !self.try_reserve(text.len()) {
             return false;
         }
         self.load_bytes(text);
         true
     }
 
-    /// Puts the bytes of `text` in front of active. They must fit beside the spare list.
+    /// Puts the bytes of `text` in front of active. They must fit beside the index area.
     #[inline]
     pub fn load_bytes(&mut self, text: &[u8])
     {
@@ -87,7 +87,7 @@ impl<'a> Space<'a> {
     }
 
     /// Copies the cells of neutral from place `a` up to `b` to the front of active. They must fit beside
-    /// the spare list.
+    /// the index area.
     #[inline(always)]
     pub fn load_from_neutral(&mut self, a: u32, b: u32)
     {
@@ -98,7 +98,7 @@ impl<'a> Space<'a> {
     }
 
     /// Copies the cells of the store from place `a` up to `b` to the front of active. They must fit beside
-    /// the spare list.
+    /// the index area.
     #[inline(always)]
     pub fn load_from_store(&mut self, a: u32, b: u32)
     {
@@ -109,7 +109,7 @@ impl<'a> Space<'a> {
     }
 
     /// Copies the cells of the store from place `a` up to `b` to the front of active if all of them are
-    /// characters. False, with nothing changed, if one isn't. They must fit beside the spare list.
+    /// characters. False, with nothing changed, if one isn't. They must fit beside the index area.
     #[inline(always)]
     pub fn load_characters(&mut self, a: u32, b: u32) -> bool
     {

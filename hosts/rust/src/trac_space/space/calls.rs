@@ -2,7 +2,7 @@
 //! The chain of open calls: each call mark knows how far the one before it is.
 
 use super::Space;
-use crate::trac_space::cell::{Cell, is_comma, link, mode};
+use crate::trac_space::cell::{Cell, frame_link, is_comma, mode};
 use crate::trac_language::Mode;
 
 impl<'a> Space<'a> {
@@ -11,7 +11,7 @@ impl<'a> Space<'a> {
     #[inline]
     pub fn last_call(&self) -> Option<u32>
     {
-        self.behind_mark.checked_sub(1)
+        self.top_frame.checked_sub(1)
     }
 
     /// The place of the last call mark in neutral before the one at `place`, that of the call around. None if
@@ -33,11 +33,11 @@ impl<'a> Space<'a> {
 
     // The place behind the last call mark among the first `end` cells of neutral, 0 if there is none.
     #[inline]
-    pub(super) fn behind_mark_before(&self, end: u32) -> u32
+    pub(super) fn frame_before(&self, end: u32) -> u32
     {
         let start = self.store as usize;
         let stop = (self.store + self.neutral) as usize;
-        behind_mark_in(&self.cells[start..stop], self.behind_mark, end)
+        top_frame_in(&self.cells[start..stop], self.top_frame, end)
     }
 
     /// How many arguments stand in neutral from the call mark at `call` up to `end`: one more than
@@ -62,7 +62,7 @@ impl<'a> Space<'a> {
 // The place behind the last call mark among the first `end` cells, 0 if there is none. `behind` is that
 // place among all the cells. Mostly only the last call mark is left out, which takes no loop.
 #[inline]
-fn behind_mark_in(neutral: &[Cell], behind: u32, end: u32) -> u32
+fn top_frame_in(neutral: &[Cell], behind: u32, end: u32) -> u32
 {
     if behind == end + 1 {
         return up_to_mark(neutral, end);
@@ -78,7 +78,7 @@ fn walk_back(neutral: &[Cell], behind: u32, end: u32) -> u32
     let mut behind = behind;
     while behind > end {
         let place = behind - 1;
-        behind = up_to(place, link(neutral[place as usize]));
+        behind = up_to(place, frame_link(neutral[place as usize]));
     }
     behind
 }
@@ -87,7 +87,7 @@ fn walk_back(neutral: &[Cell], behind: u32, end: u32) -> u32
 #[inline]
 fn up_to_mark(neutral: &[Cell], place: u32) -> u32
 {
-    up_to(place, link(neutral[place as usize]))
+    up_to(place, frame_link(neutral[place as usize]))
 }
 
 // The place behind the call mark before the one at `place`, which has this number; 0 if there is none.

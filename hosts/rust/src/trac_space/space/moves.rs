@@ -3,7 +3,7 @@
 
 use super::Space;
 use crate::trac_space::cell::Cell;
-use crate::trac_space::character_runs::copy_turned;
+use crate::trac_space::character_runs::translate_run;
 use crate::trac_space::copies::{copy_cells, copy_mostly_apart};
 
 impl<'a> Space<'a> {
@@ -40,7 +40,7 @@ impl<'a> Space<'a> {
     {
         let start = (self.end - self.active) as usize;
         let to = (self.store + self.neutral) as usize;
-        let (count, last) = copy_turned(self.cells, start, to, most as usize, table);
+        let (count, last) = translate_run(self.cells, start, to, most as usize, table);
         self.neutral += count as u32;
         self.active -= count as u32;
         (count as u32, last as u32)

@@ -6,45 +6,45 @@ use crate::trac_space::byte_search::count_before;
 use crate::trac_space::byte_writing::write_bytes;
 use crate::trac_space::cell::{Cell, is_call, linked};
 use crate::trac_space::copies::copy_cells;
-use crate::trac_space::filling::lay_commas;
-use crate::trac_space::overlay::lift;
+use crate::trac_space::filling::tag_commas;
+use crate::trac_space::tags::clear_tags;
 
 impl<'a> Space<'a> {
     /// Appends a cell to neutral. False, with nothing changed, if no cell is free.
     #[inline]
     pub fn push_neutral(&mut self, cell: Cell) -> bool
     {
-        if self.free_beside_spare() == 0 {
-            return self.push_over_spare(cell);
+        if self.free_beside_index() == 0 {
+            return self.push_over_index(cell);
         }
         self.put_neutral(cell);
         true
     }
 
-    // Appends a cell to neutral where no cell is free beside the spare list, which is dropped for it. False,
+    // Appends a cell to neutral where no cell is free beside the index area, which is dropped for it. False,
     // with nothing changed, if no cell is free at all.
     #[inline(never)]
-    fn push_over_spare(&mut self, cell: Cell) -> bool
+    fn push_over_index(&mut self, cell: Cell) -> bool
     {
-        if !self.try_claim_spare(1) {
+        if !self.try_reserve_without_index(1) {
             return false;
         }
         self.put_neutral(cell);
         true
     }
 
-    /// Appends a cell to neutral. A cell must be free beside the spare list.
+    /// Appends a cell to neutral. A cell must be free beside the index area.
     #[inline]
     pub fn put_neutral(&mut self, cell: Cell)
     {
         let place = self.neutral;
-        let behind = self.behind_mark;
+        let behind = self.top_frame;
         self.cells[(self.store + place) as usize] = linked(cell, place, behind);
-        self.behind_mark = if is_call(&cell) { place + 1 } else { behind };
+        self.top_frame = if is_call(&cell) { place + 1 } else { behind };
         self.neutral = place + 1;
     }
 
-    /// Appends cells to neutral. They must fit beside the spare list.
+    /// Appends cells to neutral. They must fit beside the index area.
     #[inline(always)]
     pub fn put_cells(&mut self, cells: &[Cell])
     {
@@ -56,14 +56,14 @@ impl<'a> Space<'a> {
     /// Appends the bytes of `text` to neutral. False, with nothing changed, if they don't fit.
     pub fn push_bytes(&mut self, text: &[u8]) -> bool
     {
-        if !self.try_claim(text.len()) {
+        if !self.try_reserve(text.len()) {
             return false;
         }
         self.put_bytes(text);
         true
     }
 
-    // Appends the bytes of `text` to neutral. They must fit beside the spare list.
+    // Appends the bytes of `text` to neutral. They must fit beside the index area.
     #[inline]
     fn put_bytes(&mut self, text: &[u8])
     {
@@ -78,7 +78,7 @@ impl<'a> Space<'a> {
     {
         let most = text.len().min(self.free() as usize);
         let count = count_before(stop, &text[..most]);
-        self.claim(count as u32);
+        self.reserve(count as u32);
         self.put_bytes(&text[..count]);
         count
     }
@@ -88,14 +88,14 @@ impl<'a> Space<'a> {
     #[inline]
     pub fn copy_neutral(&mut self, a: u32, b: u32) -> bool
     {
-        if !self.try_claim((b - a) as usize) {
+        if !self.try_reserve((b - a) as usize) {
             return false;
         }
         self.put_from_neutral(a, b);
         true
     }
 
-    // Copies the cells of neutral from place `a` up to `b` to its end. They must fit beside the spare list.
+    // Copies the cells of neutral from place `a` up to `b` to its end. They must fit beside the index area.
     #[inline]
     fn put_from_neutral(&mut self, a: u32, b: u32)
     {
@@ -110,7 +110,7 @@ impl<'a> Space<'a> {
     /// changed, if they don't fit.
     pub fn copy_store(&mut self, a: u32, b: u32) -> bool
     {
-        if !self.try_claim((b - a) as usize) {
+        if !self.try_reserve((b - a) as usize) {
             return false;
         }
         self.put_from_store(a, b);
@@ -118,7 +118,7 @@ impl<'a> Space<'a> {
     }
 
     // Copies the cells of the store from place `a` up to `b` to the end of neutral. They must fit beside the
-    // spare list.
+    // index area.
     #[inline]
     fn put_from_store(&mut self, a: u32, b: u32)
     {
@@ -127,14 +127,14 @@ impl<'a> Space<'a> {
         self.neutral += b - a;
     }
 
-    /// Lays the places of the comma marks of neutral from place `first` up to `end` over the first cells
-    /// there, and gives how many they are. None stands from place `plain` up to `end`. `lift_neutral`
+    /// Puts the places of the comma marks of neutral from place `first` up to `end` as tags on the first cells
+    /// there, and gives how many they are. None stands from place `no_comma_from` up to `end`. `clear_neutral_tags`
     /// takes them off again.
     #[inline(always)]
-    pub fn lay_commas(&mut self, first: u32, end: u32, plain: u32) -> u32
+    pub fn tag_commas(&mut self, first: u32, end: u32, no_comma_from: u32) -> u32
     {
         let cells = &mut self.cells[(self.store + first) as usize..(self.store + end) as usize];
-        lay_commas(cells, (plain.max(first).min(end) - first) as usize) as u32
+        tag_commas(cells, (no_comma_from.max(first).min(end) - first) as usize) as u32
     }
 
     /// Replaces the cell at place `i` of neutral. Neither the old nor the new one may be a call mark.
@@ -144,26 +144,26 @@ impl<'a> Space<'a> {
         self.cells[(self.store + i) as usize] = cell;
     }
 
-    /// Takes the numbers that lie over the cells of neutral from place `a` up to `b` off them.
+    /// Takes the tags off the cells of neutral from place `a` up to `b`.
     #[inline(always)]
-    pub fn lift_neutral(&mut self, a: u32, b: u32)
+    pub fn clear_neutral_tags(&mut self, a: u32, b: u32)
     {
-        lift(&mut self.cells[(self.store + a) as usize..(self.store + b) as usize]);
+        clear_tags(&mut self.cells[(self.store + a) as usize..(self.store + b) as usize]);
     }
 
     /// Empties neutral, its open calls included.
     pub fn clear_neutral(&mut self)
     {
         self.neutral = 0;
-        self.behind_mark = 0;
+        self.top_frame = 0;
     }
 
     /// Removes all but the first `n` cells of neutral. Looks at each call mark that it removes.
     #[inline]
     pub fn cut_neutral(&mut self, n: u32)
     {
-        let behind_mark = self.behind_mark_before(n);
-        self.behind_mark = behind_mark;
+        let top_frame = self.frame_before(n);
+        self.top_frame = top_frame;
         self.neutral = n;
     }
 
@@ -173,9 +173,9 @@ impl<'a> Space<'a> {
         let start = (self.store + b) as usize;
         let end = (self.store + self.neutral) as usize;
         let to = (self.store + a) as usize;
-        let behind_mark = self.behind_mark_before(a);
+        let top_frame = self.frame_before(a);
         copy_cells(self.cells, start, end, to);
         self.neutral -= b - a;
-        self.behind_mark = behind_mark;
+        self.top_frame = top_frame;
     }
 }

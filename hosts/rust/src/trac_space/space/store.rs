@@ -6,7 +6,7 @@ use crate::trac_space::cell::Cell;
 use crate::trac_space::copies::{LOWER, copy_apart, copy_cells, copy_higher};
 
 impl<'a> Space<'a> {
-    /// Appends `n` cells to the store, which are unspecified. They must fit beside the spare list.
+    /// Appends `n` cells to the store, which are unspecified. They must fit beside the index area.
     #[inline(always)]
     pub fn open_store(&mut self, n: u32)
     {

@@ -1,13 +1,13 @@
-// Generated from crates/trac_space/src/overlay.rt by hosts/rust/generate, and never edited.
-//! Numbers laid over cells of neutral for a while. A character or a comma mark leaves 24 bits of its
+// Generated from crates/trac_space/src/tags.rt by hosts/rust/generate, and never edited.
+//! Tags: numbers that cells of neutral carry for a while. A character or a comma mark leaves 24 bits of its
 //! cell free, enough for each place of a block. So a search for a text keeps its table in the cells of
 //! that text, and needs no other memory.
 
 use crate::trac_space::cell::{Cell, UNREACHED_NUMBER};
 
-/// Lays a number over a character or a comma mark. `cell_under` and `number_over` read the two back.
+/// A character or a comma mark with a number as its tag. `untagged_cell` and `tag_or_zero` read the two back.
 #[inline]
-pub fn laid(cell: Cell, number: u32) -> Cell
+pub fn tagged(cell: Cell, number: u32) -> Cell
 {
     match cell {
         Cell::Byte(byte) => Cell::Head(number * 256 + byte as u32),
@@ -15,9 +15,9 @@ pub fn laid(cell: Cell, number: u32) -> Cell
     }
 }
 
-/// The character or comma mark under a number. A cell without a number stays as it is.
+/// The character or comma mark of a cell without its tag. A cell that has none stays as it is.
 #[inline]
-pub fn cell_under(cell: Cell) -> Cell
+pub fn untagged_cell(cell: Cell) -> Cell
 {
     match cell {
         Cell::Head(number) => Cell::Byte((number % 256) as u8),
@@ -26,9 +26,9 @@ pub fn cell_under(cell: Cell) -> Cell
     }
 }
 
-/// The number over a cell, or 0 if none lies there.
+/// The tag of a cell, or 0 if it has none.
 #[inline]
-pub fn number_over(cell: Cell) -> u32
+pub fn tag_or_zero(cell: Cell) -> u32
 {
     match cell {
         Cell::Head(number) | Cell::Gap(number) => number / 256,
@@ -36,9 +36,9 @@ pub fn number_over(cell: Cell) -> u32
     }
 }
 
-// The number over a cell that has one.
+// The tag of a cell that has one.
 #[inline(always)]
-pub(crate) fn number_over_laid(cell: Cell) -> u32
+pub(crate) fn present_tag(cell: Cell) -> u32
 {
     match cell {
         Cell::Head(number) | Cell::Gap(number) => number / 256,
@@ -46,11 +46,11 @@ pub(crate) fn number_over_laid(cell: Cell) -> u32
     }
 }
 
-// Takes the numbers off the cells.
+// Takes the tags off the cells.
 #[inline(always)]
-pub(crate) fn lift(cells: &mut [Cell])
+pub(crate) fn clear_tags(cells: &mut [Cell])
 {
     for k in 0..cells.len() {
-        cells[k] = cell_under(cells[k]);
+        cells[k] = untagged_cell(cells[k]);
     }
 }
