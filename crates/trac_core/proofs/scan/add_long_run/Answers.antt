@@ -23,8 +23,8 @@ returns-clause-passes c =
       shorter = omega arith;
     })
 
-pub returns-clause-plain : goal.returns-clause-plain
-returns-clause-plain c = λ place no_comma_from.
+pub returns-clause-no_comma_from : goal.returns-clause-no_comma_from
+returns-clause-no_comma_from c = λ place no_comma_from.
     let old = c.args.work.now in
     rw c.active_to_neutral.ensures.moved
     (no_comma_from-appended old.neutral (take (1 + c.ordinary_characters-count.result) old.active) (bytes-no_comma_from _ (All-take IsByte _ old.active c.requires.sound.active)) place no_comma_from)

@@ -22,8 +22,8 @@ returns-clause-some c = λ first is less allowed.
     let reach : 0 < c.args.reach = omega (arith, inside, allowed) in
     rw c.from.ensures (run-some old.active n c.args.reach first is less reach c.run_to_neutral-count.ensures.ends)
 
-pub returns-clause-plain : goal.returns-clause-plain
-returns-clause-plain c =
+pub returns-clause-no_comma_from : goal.returns-clause-no_comma_from
+returns-clause-no_comma_from c =
     let old = c.args.work.now in
     let n = c.run_to_neutral-count.result.0 in
     let last = c.run_to_neutral-count.result.1 in

@@ -26,8 +26,8 @@ returns-in-None-clause-scans c =
     let text = text-after old.active c.active_part.result.now c.active_len.result c.active_part.ensures c.active_len.ensures.value in
     rw c.clear_active.ensures.empty (scans-unmatched old c.requires.first (subst (λ t. protected t ≡ None) text c.in-None.ensures))
 
-pub returns-in-Some-clause-plain : goal.returns-in-Some-clause-plain
-returns-in-Some-clause-plain c = λ place no_comma_from.
+pub returns-in-Some-clause-no_comma_from : goal.returns-in-Some-clause-no_comma_from
+returns-in-Some-clause-no_comma_from c = λ place no_comma_from.
     let old = c.args.work.now in
     let text = take c.in-Some.len (drop 1 old.active) in
     let moved = ap (λ (w : Contents). w.neutral) c.drop_active-in-Some.ensures.rest

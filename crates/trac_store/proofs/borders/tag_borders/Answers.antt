@@ -26,6 +26,6 @@ pub loop-count-preserved : goal.loop-count-preserved
 loop-count-preserved c =
     up-to-next c.args.space.now c.loop-count.space _ _ _ _ c.requires.text_part c.loop-count.invariant (omega (arith, c.loop-count-test.true)) c.neutral_part-text.result.now c.neutral_part-text.ensures c.write_neutral.new.self c.next_border-border.result c.tagged.result c.next_border-border.ensures c.tagged.ensures.untagged c.tagged.ensures.tag_of c.write_neutral.ensures
 
-pub returns-clause-laid : goal.returns-clause-laid
-returns-clause-laid c =
+pub returns-clause-tagged : goal.returns-clause-tagged
+returns-clause-tagged c =
     tagged-all c.args.space.now c.loop-count.space c.args.part.from c.args.part.to c.loop-count.count c.loop-count.border c.requires.text_part c.loop-count.invariant (omega (arith, c.loop-count-test.false))

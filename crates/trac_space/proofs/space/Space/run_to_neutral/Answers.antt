@@ -26,8 +26,8 @@ returns-clause-ends c = λ less.
     let same = front-next right s.active n (omega (arith, less)) (omega arith) c.args.table.now in
     rw (← c.self.view_is) (omega (arith, ends, at, same))
 
-pub returns-clause-plain : goal.returns-clause-plain
-returns-clause-plain c =
+pub returns-clause-no_comma_from : goal.returns-clause-no_comma_from
+returns-clause-no_comma_from c =
     let size = sizes c.self.invariant c.self.view_is in
     let no_comma_from = rw (begin c.self.invariant) at c.translate_run-count.ensures.no_comma_from in
     rw (← c.self.view_is) (front-no_comma_from (parts_of c.self.inside).right c.self.inside.active _ (omega (arith, c.translate_run-count.ensures.few)) c.args.table.now _ no_comma_from)
