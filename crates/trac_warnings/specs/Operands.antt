@@ -1,10 +1,11 @@
 -- What is suspicious in a text that is taken for a number.
 use Rattle.std.specs.Prelude.{Bool, true, false, List, [], ◌∷◌, Option, None, Some, length, ◌==◌}
-use Rattle.std.specs.Prelude.{option_map, if◌then◌else◌}
+use Rattle.std.specs.Prelude.{◌&&◌, nat_le, not, option_map, if◌then◌else◌}
 use Rattle.std.specs.Char.{is_ascii_digit}
 use Rattle.std.specs.List.{list_all}
 use Rattle.trac_language.specs.Form.{Form}
 use Rattle.trac_language.specs.Text.{Text}
+use Rattle.trac_language.specs.declared.arith.Arith.TheVariants.{Divide}
 use Rattle.trac_language.specs.declared.function.Function.{Function}
 use Rattle.trac_language.specs.declared.function.Function.TheVariants.{Arithmetic, Greater}
 use Rattle.trac_space.specs.declared.cell.Cell.{Cell}
@@ -18,6 +19,20 @@ abbrev pub takes_numbers : Function → Bool
 takes_numbers Greater = true
 takes_numbers (Arithmetic operation) = true
 takes_numbers _ = false
+
+-- whether a function adds, subtracts or multiplies
+abbrev pub adds : Function → Bool
+adds (Arithmetic Divide) = false
+adds (Arithmetic operation) = true
+adds _ = false
+
+-- whether a text is a number: digits alone, at least one
+abbrev pub is_number : Text → Bool
+is_number text = not (length text == 0) && list_all is_ascii_digit text
+
+-- whether two numbers, with a comma between them, are written as thousands: three digits behind at most three
+abbrev pub are_thousands : (one other : Text) → Bool
+are_thousands one other = nat_le (length one) 3 && (length other == 3)
 
 -- what is suspicious in what stands behind the first digit of a number: another character than a digit
 abbrev pub behind_digit : Text → Option Suspicion

@@ -14,6 +14,9 @@ use Rattle.trac_language.specs.declared.function.Function.{Function}
 use Rattle.trac_language.specs.declared.function.Function.TheVariants.{SegmentString, CallForm, InitialPart}
 use Rattle.trac_language.specs.declared.function.Function.TheVariants.{Equal, PrintString, ChangeMeta}
 use Rattle.trac_language.specs.Table.{traits}
+use Rattle.trac_language.specs.declared.table.Given.{Given}
+use Rattle.trac_language.specs.declared.table.Given.TheVariants.{Nothing}
+use Rattle.trac_language.specs.declared.table.Traits.{Traits}
 use Rattle.trac_language.specs.declared.item.Item.{Item}
 use Rattle.trac_space.specs.declared.cell.Cell.{Cell}
 use Rattle.trac_space.specs.Cells.{is_comma}
@@ -23,8 +26,8 @@ use Rattle.trac_events.specs.Changes.{form_of, is_same, takes_part}
 use Rattle.trac_warnings.specs.Blanks.{trimmed}
 use Rattle.trac_warnings.specs.Gaps.{highest_gap, is_absent, stands_in, stands_in_name, stands_in_words}
 use Rattle.trac_warnings.specs.Letters.{differ_by_letters, stands_in_letters}
-use Rattle.trac_warnings.specs.Operands.{operand_among, suspicion_of_operand, takes_numbers}
-use Rattle.trac_warnings.specs.Printed.{begins_with_line_end, behind_opening, has_two_at_end, is_call}
+use Rattle.trac_warnings.specs.Operands.{adds, are_thousands, is_number, operand_among, suspicion_of_operand, takes_numbers}
+use Rattle.trac_warnings.specs.Printed.{begins_with_line_end, behind_call, has_two_at_end}
 use Rattle.trac_warnings.specs.Suspicions.{is_called_alone, is_written, suspicion_of_name}
 use Rattle.trac_warnings.specs.Watched.{Said, said}
 use Rattle.trac_warnings.specs.declared.origin.Origin.{Origin}
@@ -34,7 +37,7 @@ use Rattle.trac_warnings.specs.declared.warning.Suspicion.TheVariants.{NoFunctio
 use Rattle.trac_warnings.specs.declared.warning.Suspicion.TheVariants.{BlankInName, BlankInSide, LetterInSide}
 use Rattle.trac_warnings.specs.declared.warning.Suspicion.TheVariants.{AllTaken}
 use Rattle.trac_warnings.specs.declared.warning.Suspicion.TheVariants.{Ignored, NothingLeft, NothingFound}
-use Rattle.trac_warnings.specs.declared.warning.Suspicion.TheVariants.{HaltInside}
+use Rattle.trac_warnings.specs.declared.warning.Suspicion.TheVariants.{HaltInside, ActsAlways, CommaInNumber}
 use Rattle.trac_warnings.specs.declared.warning.Suspicion.TheVariants.{ReadsAlways, GapInName, NotInForm, NoGap}
 use Rattle.trac_warnings.specs.declared.warning.Suspicion.TheVariants.{InOtherLetters, GapInWord, FewArguments}
 use Rattle.trac_warnings.specs.declared.warning.Suspicion.TheVariants.{CallPrinted, LineEndAsMeta}
@@ -122,13 +125,24 @@ is_chosen (Some function) place =
 abbrev pub is_in_default : List Cell → Bool
 is_in_default around = is_chosen (function_of around) (commas_of around)
 
--- what is suspicious in a call that ends the run or reads and stands in the last argument of the call `around`
+-- whether nothing of a form is a value
+abbrev pub gives_nothing : Given → Bool
+gives_nothing Nothing = true
+gives_nothing _ = false
+
+-- whether a function with these traits prints, or changes forms and gives nothing of them
+abbrev pub acts : Traits → Bool
+acts traits = traits.prints || (traits.changes_forms && gives_nothing traits.gives)
+
+-- what is suspicious in a call that ends the run, reads, prints or changes forms, and stands in the last argument of
+-- the call `around`
 abbrev pub inside : Function → List Cell → Option Suspicion
 inside function around =
     if (traits function).ends then Some HaltInside
-    else (if (traits function).reads && is_in_default around then Some ReadsAlways else None)
+    else (if (traits function).reads && is_in_default around then Some ReadsAlways
+    else (if acts (traits function) && is_in_default around then Some ActsAlways else None))
 
--- the warning of a call that ends the run or reads inside another call of the same text
+-- the warning of a call that ends the run, reads, prints or changes forms inside another call of the same text
 abbrev pub nested : Function → Ending → List Said
 nested function ending =
     if ending.is_inside
@@ -180,17 +194,33 @@ side_warnings function ending =
     let other = argument_of ending.arguments.now 2 in
     if compares_texts function then name_warnings (suspicion_of_sides one other) ending.begin one else []
 
+-- whether a comma seems to part one of the numbers that a call adds, subtracts or multiplies: it has a third number,
+-- and one has three digits and stands behind one of at most three
+abbrev pub parts_number : List Cell → Bool
+parts_number arguments =
+    let one = text_of_cells (argument_of arguments 1) in
+    let other = text_of_cells (argument_of arguments 2) in
+    let more = text_of_cells (argument_of arguments 3) in
+    ((is_number one && is_number other) && is_number more)
+    && (are_thousands one other || are_thousands other more)
+
+-- the warning of a call that adds, subtracts or multiplies, and in which a comma seems to part a number
+abbrev pub comma_warnings : Function → Ending → List Said
+comma_warnings function ending =
+    where_so (adds function && parts_number ending.arguments.now) CommaInNumber ending.begin
+    (argument_of ending.arguments.now 0)
+
 -- whether a function prints a text
 abbrev pub prints : Function → Bool
 prints PrintString = true
 prints _ = false
 
--- the warning of a call that prints nothing but a call, apart from blanks and layout, which it names
+-- the warning of a call that prints a text in which a call of a function stands, whose name it gives
 abbrev pub print_warnings : Function → Ending → List Said
 print_warnings function ending =
-    let text = text_of_cells (trimmed (argument_of ending.arguments.now 1)) in
-    if prints function && is_call text
-    then of_text CallPrinted ending.begin (take 2 (behind_opening text)) ∷ [] else []
+    let behind = behind_call (text_of_cells (argument_of ending.arguments.now 1)) in
+    if prints function && not (length behind == 0)
+    then of_text CallPrinted ending.begin (take 2 behind) ∷ [] else []
 
 -- whether a function changes the meta character
 abbrev pub changes_meta : Function → Bool
@@ -204,10 +234,11 @@ meta_change_warnings function ending =
     where_so (changes_meta function && (begins_with_line_end (text_of_cells new)
     && has_two_at_end false ending.input.now)) LineEndAsMeta ending.begin new
 
--- the warnings of the texts that a call compares, or that it prints, or that has the new meta character
+-- the warnings of the texts that a call compares, or computes with, or that it prints, or that has the new meta character
 abbrev pub given_warnings : Function → Ending → List Said
 given_warnings function ending =
-    side_warnings function ending ++ (print_warnings function ending ++ meta_change_warnings function ending)
+    side_warnings function ending ++ (comma_warnings function ending
+    ++ (print_warnings function ending ++ meta_change_warnings function ending))
 
 -- whether the argument at a place is given
 abbrev pub is_given_at : Option ℕ → List Cell → Bool

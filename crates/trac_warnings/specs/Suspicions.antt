@@ -12,7 +12,7 @@ use Rattle.trac_warnings.specs.declared.warning.Suspicion.TheVariants.{NoNumberS
 use Rattle.trac_warnings.specs.declared.warning.Suspicion.TheVariants.{LeftOut, NoForm, BlankInName, Ignored}
 use Rattle.trac_warnings.specs.declared.warning.Suspicion.TheVariants.{NoResult, NoDigits, FormAsNumber}
 use Rattle.trac_warnings.specs.declared.warning.Suspicion.TheVariants.{DigitsInside, NothingLeft, NothingFound}
-use Rattle.trac_warnings.specs.declared.warning.Suspicion.TheVariants.{HaltInside}
+use Rattle.trac_warnings.specs.declared.warning.Suspicion.TheVariants.{HaltInside, ActsAlways, CommaInNumber}
 use Rattle.trac_warnings.specs.declared.warning.Suspicion.TheVariants.{AllTaken, BlankInSide, LetterInSide}
 use Rattle.trac_warnings.specs.declared.warning.Suspicion.TheVariants.{ReadsAlways, CallPrinted, LineEndAsMeta}
 use Rattle.trac_warnings.specs.declared.warning.Suspicion.TheVariants.{GapInName, NotInForm, NoGap, FewArguments}
@@ -42,6 +42,7 @@ sentence_of Ignored = codes "the function takes no notice of the argument "
 sentence_of NoResult = codes "there is no result, and no default value is given: "
 sentence_of NoDigits = codes "a text without digits stands for the number 0: "
 sentence_of FormAsNumber = codes "this text is no number, but a form has the name; write #(cl,"
+sentence_of CommaInNumber = codes "digits behind a comma are another argument, here of "
 sentence_of DigitsInside = codes "only the digits at the end of a text are its number: "
 sentence_of NothingLeft = codes "nothing is left, and no default value is given, of the form "
 sentence_of NothingFound = codes "nothing is found, and no default value is given, in the form "
@@ -52,6 +53,7 @@ sentence_of LetterInSide = codes "the sides of eq differ only in capitals and sm
 sentence_of HaltInside =
     codes "hl ends the run before the call around it is performed, which is of "
 sentence_of ReadsAlways = codes "what isn't protected always reads, here in a default value of "
+sentence_of ActsAlways = codes "what isn't protected is always performed, here in an argument of "
 sentence_of CallPrinted = codes "a call is printed here and not performed, of "
 sentence_of LineEndAsMeta = codes "lines end with CR and LF, of which one becomes the meta character: "
 sentence_of GapInName = codes "a text of ss also stands in the name of a call: "
@@ -90,11 +92,13 @@ is_on_call Ignored = true
 is_on_call NoResult = true
 is_on_call NoDigits = true
 is_on_call FormAsNumber = true
+is_on_call CommaInNumber = true
 is_on_call DigitsInside = true
 is_on_call BlankInSide = true
 is_on_call LetterInSide = true
 is_on_call HaltInside = true
 is_on_call ReadsAlways = true
+is_on_call ActsAlways = true
 is_on_call CallPrinted = true
 is_on_call LineEndAsMeta = true
 is_on_call _ = false

@@ -4,9 +4,9 @@ ghost use Rattle.trac_space.specs.Texts.{text_of_cells};
 ghost use Rattle.std.specs.Char.{is_ascii_digit};
 ghost use Rattle.std.specs.List.{list_all};
 ghost use Rattle.trac_warnings.specs.Operands.{operand_among, suspicion_of_number, suspicion_of_operand};
-ghost use Rattle.trac_warnings.specs.Operands.{behind_digit, takes_numbers};
-ghost use Rattle.trac_warnings.specs.Performed.{Warns, compares_texts, differ_by_blanks, has_odd_operand};
-ghost use Rattle.trac_warnings.specs.Performed.{operand_warnings, side_warnings, suspicion_of_sides};
+ghost use Rattle.trac_warnings.specs.Operands.{adds, are_thousands, behind_digit, is_number, takes_numbers};
+ghost use Rattle.trac_warnings.specs.Performed.{Warns, comma_warnings, compares_texts, differ_by_blanks, has_odd_operand};
+ghost use Rattle.trac_warnings.specs.Performed.{operand_warnings, parts_number, side_warnings, suspicion_of_sides};
 ghost use Rattle.trac_warnings.specs.Watched.{Kept};
 
 use crate::blanks::trimmed;
@@ -16,7 +16,7 @@ use crate::warning::{Suspicion, Warning};
 use std::alloc::{AllocError, Allocator};
 use trac_core::Machine;
 use trac_events::{argument, find_form, is_same};
-use trac_language::Function;
+use trac_language::{Arith, Function};
 use trac_space::{Cell, character_of};
 
 /// Looks at the first argument in which something is suspicious, if a call of this function takes its
@@ -143,6 +143,70 @@ pub(crate) fn look_at_sides<A: Allocator + Copy>(
         Some(suspicion) => warn(warnings, alloc, suspicion, ending.begin, one),
         None => Ok(()),
     }
+}
+
+/// Looks at a call that adds, subtracts or multiplies, and in which a comma seems to part a number. An error means
+/// that memory ran out.
+#[tactic(auto, using(crate::proofs::Keeping::keeping))]
+pub(crate) fn look_at_thousands<A: Allocator + Copy>(
+    warnings: &mut Vec<Warning<A>, A>,
+    alloc: A,
+    function: Function,
+    ending: &Ending,
+) -> Result<(), AllocError>
+    ensures kept { Kept warnings.old.items warnings.new.items }
+    ensures said { OnOk result (Warns warnings.old.items warnings.new.items
+        (comma_warnings function ending.now)) }
+{
+    if !adds(function) || !parts_number(ending.arguments) {
+        return Ok(());
+    }
+    let name = argument(ending.arguments, 0);
+    warn(
+        warnings,
+        alloc,
+        Suspicion::CommaInNumber,
+        ending.begin,
+        name,
+    )
+}
+
+// Whether a function adds, subtracts or multiplies.
+fn adds(function: Function) -> bool
+    ensures { result ≡ adds function }
+{
+    matches!(
+        function,
+        Function::Arithmetic(Arith::Add | Arith::Subtract | Arith::Multiply)
+    )
+}
+
+// Whether a comma seems to part one of the numbers of a call: it has a third number, and one has three digits and
+// stands behind one of at most three.
+fn parts_number(arguments: &[Cell]) -> bool
+    ensures { result ≡ parts_number arguments.now }
+{
+    let one = argument(arguments, 1);
+    let other = argument(arguments, 2);
+    let more = argument(arguments, 3);
+    is_number(one)
+        && is_number(other)
+        && is_number(more)
+        && (are_thousands(one, other) || are_thousands(other, more))
+}
+
+// Whether a text is a number: digits alone, at least one.
+fn is_number(cells: &[Cell]) -> bool
+    ensures { result ≡ is_number (text_of_cells cells.now) }
+{
+    !cells.is_empty() && are_digits(cells)
+}
+
+// Whether two numbers, with a comma between them, are written as thousands: three digits behind at most three.
+fn are_thousands(one: &[Cell], other: &[Cell]) -> bool
+    ensures { result ≡ are_thousands (text_of_cells one.now) (text_of_cells other.now) }
+{
+    one.len() <= 3 && other.len() == 3
 }
 
 // What is suspicious in two texts that are compared: that they differ only by blanks and layout around them, or only

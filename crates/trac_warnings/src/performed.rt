@@ -2,7 +2,7 @@
 ghost use Rattle.std.specs.Prelude.{◌≡◌, ◌<◌, ◌-◌, ◌^◌, IfOk, OnOk};
 ghost use Rattle.trac_space.specs.Texts.{text_of_cells};
 ghost use Rattle.trac_language.specs.Table.{traits};
-ghost use Rattle.trac_warnings.specs.Performed.{Warns, call_warnings, commas_of, form_warnings};
+ghost use Rattle.trac_warnings.specs.Performed.{Warns, acts, call_warnings, commas_of, form_warnings};
 ghost use Rattle.trac_warnings.specs.Performed.{given_warnings, has_default, ignored_behind, ignored_place, inside};
 ghost use Rattle.trac_warnings.specs.Performed.{is_compared, is_in_default, missing_warnings, naming};
 ghost use Rattle.trac_warnings.specs.Performed.{nested, of_text, suspicion_of_call, suspicion_of_missing};
@@ -12,7 +12,7 @@ ghost use Rattle.trac_warnings.specs.Watched.{Adds, Kept};
 use crate::blanks::trimmed;
 use crate::bodies::look_at_body;
 use crate::names::{is_written, suspicion_of_name};
-use crate::operands::{look_at_operands, look_at_sides};
+use crate::operands::{look_at_operands, look_at_sides, look_at_thousands};
 use crate::origin::Origin;
 use crate::printed::{look_at_meta_change, look_at_print};
 use crate::warning::{Suspicion, Warning};
@@ -20,7 +20,7 @@ use std::alloc::{AllocError, Allocator};
 use trac_core::Machine;
 use trac_events::{argument, find_form};
 use trac_functions::function::function_named;
-use trac_language::{Function, facts_of};
+use trac_language::{Function, Given, Traits, facts_of};
 use trac_space::{Cell, character_of};
 
 /// A call before it is performed, and where it was written.
@@ -67,7 +67,7 @@ pub fn look_at_call<A: Allocator + Copy>(
     look_at_form(warnings, alloc, machine, function, ending)
 }
 
-// Looks at the texts that a call compares, or that it prints, or that has the new meta character.
+// Looks at the texts that a call compares, or computes with, or that it prints, or that has the new meta character.
 #[tactic(auto, using(crate::proofs::Keeping::keeping))]
 fn look_at_given<A: Allocator + Copy>(
     warnings: &mut Vec<Warning<A>, A>,
@@ -80,6 +80,7 @@ fn look_at_given<A: Allocator + Copy>(
         (given_warnings function ending.now)) }
 {
     look_at_sides(warnings, alloc, function, ending)?;
+    look_at_thousands(warnings, alloc, function, ending)?;
     look_at_print(warnings, alloc, function, ending)?;
     look_at_meta_change(warnings, alloc, function, ending)
 }
@@ -143,7 +144,7 @@ pub(crate) fn written_with(place: Option<Origin>, ending: &Ending, cells: &[Cell
     }
 }
 
-// Looks at what the call around it makes of a call that ends the run or reads.
+// Looks at a call that ends the run, reads, prints or changes forms inside another call.
 #[tactic(auto, using(crate::proofs::Keeping::keeping))]
 fn look_at_nesting<A: Allocator + Copy>(
     warnings: &mut Vec<Warning<A>, A>,
@@ -174,9 +175,18 @@ fn suspicion_inside(function: Function, around: &[Cell]) -> Option<Suspicion>
         Some(Suspicion::HaltInside)
     } else if traits.reads && is_in_default(around) {
         Some(Suspicion::ReadsAlways)
+    } else if acts(&traits) && is_in_default(around) {
+        Some(Suspicion::ActsAlways)
     } else {
         None
     }
+}
+
+// Whether a function with these traits prints, or changes forms and gives nothing of them.
+fn acts(traits: &Traits) -> bool
+    ensures { result ≡ acts traits.now }
+{
+    traits.prints || traits.changes_forms && matches!(traits.gives, Given::Nothing)
 }
 
 // Whether the last argument so far of a call is its default value, or one of two from which its

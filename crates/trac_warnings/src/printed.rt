@@ -1,12 +1,11 @@
 //! What is suspicious in a call that prints or changes the meta character.
-ghost use Rattle.std.specs.Prelude.{◌≡◌, ◌≤◌, false, OnOk, length, true};
+ghost use Rattle.std.specs.Prelude.{◌≡◌, ◌<◌, ◌≤◌, false, OnOk, length};
 ghost use Rattle.trac_space.specs.Texts.{text_of_cells};
 ghost use Rattle.trac_warnings.specs.Performed.{Warns, changes_meta, meta_change_warnings, print_warnings, prints};
-ghost use Rattle.trac_warnings.specs.Printed.{begins_with_line_end, behind_opening, behind_parenthesis, behind_sign};
-ghost use Rattle.trac_warnings.specs.Printed.{closes_at_end, has_two_at_end, is_call};
+ghost use Rattle.trac_warnings.specs.Printed.{begins_with_line_end, behind_call, behind_opening, behind_parenthesis};
+ghost use Rattle.trac_warnings.specs.Printed.{behind_sign, has_two_at_end};
 ghost use Rattle.trac_warnings.specs.Watched.{Kept};
 
-use crate::blanks::trimmed;
 use crate::performed::{Ending, characters_of, warn, warn_of};
 use crate::spelling::names_function;
 use crate::warning::{Suspicion, Warning};
@@ -15,7 +14,7 @@ use trac_events::argument;
 use trac_language::Function;
 use trac_space::{Cell, character_of};
 
-/// Looks at what a call prints: whether it is a call, and nothing else. An error means that memory ran out.
+/// Looks at what a call prints: whether a call of a function stands in it. An error means that memory ran out.
 #[tactic(auto, using(crate::proofs::Keeping::keeping))]
 pub(crate) fn look_at_print<A: Allocator + Copy>(
     warnings: &mut Vec<Warning<A>, A>,
@@ -30,12 +29,13 @@ pub(crate) fn look_at_print<A: Allocator + Copy>(
     if !prints(function) {
         return Ok(());
     }
-    let text = characters_of(alloc, trimmed(argument(ending.arguments, 1)))?;
-    if !is_call(&text) {
+    let text = characters_of(alloc, argument(ending.arguments, 1))?;
+    let behind = behind_call(&text);
+    if behind.is_empty() {
         return Ok(());
     }
     let mut name = Vec::new(alloc);
-    name.extend_from_slice(&behind_opening(&text)[..2])?;
+    name.extend_from_slice(&behind[..2])?;
     warn_of(warnings, Suspicion::CallPrinted, ending.begin, name)
 }
 
@@ -46,13 +46,18 @@ fn prints(function: Function) -> bool
     matches!(function, Function::PrintString)
 }
 
-// Whether a text is a call of a function, and nothing else.
-fn is_call(text: &[u8]) -> bool
-    ensures value { result ≡ is_call text.now }
-    ensures long { result ≡ true → 2 ≤ length (behind_opening text.now) }
+// What stands behind the characters that open the first call of a function in a text; null if none is in it.
+fn behind_call(text: &[u8]) -> &[u8]
+    ensures value { result.now ≡ behind_call text.now }
+    ensures long { 0 < length result.now → 2 ≤ length result.now }
 {
-    let behind = behind_opening(text);
-    names_function(b')', behind) && closes_at_end(behind)
+    for (i, _byte) in text.iter().enumerate() {
+        let behind = behind_opening(&text[i..]);
+        if names_function(b')', behind) {
+            return behind;
+        }
+    }
+    &[]
 }
 
 // What stands behind the characters that open a call at the head of a text; null, if they aren't there.
@@ -83,24 +88,6 @@ fn behind_parenthesis(text: &[u8]) -> &[u8]
         [b'(', behind @ ..] => behind,
         _ => &[],
     }
-}
-
-// Whether the last character of a text closes a parenthesis that is open before the text, and none before it does.
-fn closes_at_end(text: &[u8]) -> bool
-    ensures { result ≡ closes_at_end 1 text.now }
-{
-    let mut opened: usize = 1;
-    for (i, byte) in text.iter().enumerate() {
-        if *byte == b'(' {
-            opened = opened.saturating_add(1);
-        } else if *byte == b')' {
-            if opened == 1 {
-                return text[i + 1..].is_empty();
-            }
-            opened = opened.saturating_sub(1);
-        }
-    }
-    false
 }
 
 /// Looks at a call that makes a character of a line end the meta character. An error means that memory ran out.

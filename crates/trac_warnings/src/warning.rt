@@ -42,6 +42,8 @@ pub enum Suspicion {
     NoDigits,
     /// A text without digits that is taken for a number, and is the name of a form.
     FormAsNumber,
+    /// A comma between digits of a number, which parts it into two arguments.
+    CommaInNumber,
     /// A text that is taken for a number, and has digits that don't stand at its end.
     DigitsInside,
     /// A call for a part of a form of which nothing is left, without a default value.
@@ -58,6 +60,9 @@ pub enum Suspicion {
     HaltInside,
     /// A call that reads in a default value that isn't protected, so that it always reads.
     ReadsAlways,
+    /// A call that prints or changes forms in a branch or a default value that isn't protected, so that it is always
+    /// performed.
+    ActsAlways,
     /// A call that is printed, and isn't performed.
     CallPrinted,
     /// A call of `cm` that makes a character of a line end the meta character, where lines end with two characters.
@@ -170,6 +175,7 @@ impl Suspicion {
             Suspicion::FormAsNumber => {
                 b"this text is no number, but a form has the name; write #(cl,"
             }
+            Suspicion::CommaInNumber => b"digits behind a comma are another argument, here of ",
             Suspicion::DigitsInside => b"only the digits at the end of a text are its number: ",
             Suspicion::BlankInSide => {
                 b"the sides of eq differ only by blanks or line ends around them: "
@@ -182,6 +188,9 @@ impl Suspicion {
             }
             Suspicion::ReadsAlways => {
                 b"what isn't protected always reads, here in a default value of "
+            }
+            Suspicion::ActsAlways => {
+                b"what isn't protected is always performed, here in an argument of "
             }
             Suspicion::CallPrinted => b"a call is printed here and not performed, of ",
             Suspicion::LineEndAsMeta => {
