@@ -1,9 +1,9 @@
 -- The codes of a neutral string, cell by cell.
-use Rattle.trac_c.proofs.Imports.{◌≡◌, ℕ, ◌+◌, List, [], ◌∷◌, ◌++◌, length, sum_by, refl, sym, ap, ◌∙◌, arith, append_assoc, append-nil, length-append, Text, OpenCall, arguments, call_cells, Byte, Neutral, no_neutral, with_character, with_comma, with_cell, with_cells, neutral_of, mark_code, with_commas, calls_codes, codes_of_neutral, call_places, comma_code, cell_code, is_open_after, has_call, drop, take, get_or, false, ◌<◌, ◌≤◌, ◌-◌, min, ⊎_elim, length-drop, length-take-le, take_more, laid, laid_from}
+use Rattle.trac_c.proofs.Imports.{◌≡◌, ℕ, ◌+◌, List, [], ◌∷◌, ◌++◌, length, sum_by, refl, sym, ap, ◌∙◌, arith, append_assoc, append-nil, length-append, Text, OpenCall, arguments, call_cells, Byte, Neutral, no_neutral, with_character, with_comma, with_cell, with_cells, neutral_of, mark_code, with_commas, calls_codes, codes_of_neutral, comma_code, cell_code, is_open_after, has_call, drop, take, get_or, ◌<◌, ◌≤◌, ◌-◌, min, ⊎_elim, length-drop, length-take-le, take_more, laid, laid_from}
 use Rattle.std.specs.Prelude.{true}
 use Rattle.std.proofs.lemmas.Bool.{cases_lt}
 use Rattle.trac_functions.proofs.FlatLemmas.{neutral_of-push, with_cells-append}
-use Rattle.std.proofs.lemmas.List.{drop-append-le, drop_more, take-append-drop, take-take, take_all}
+use Rattle.std.proofs.lemmas.List.{drop-append-le, take-append-drop, take-take, take_all}
 use Rattle.trac_c.proofs.Buffers.{laid-next, laid-over}
 use Rattle.std.proofs.lemmas.List.Sums.{sum_by-cons}
 use Rattle.trac_space.specs.declared.cell.Cell.{Cell}
@@ -157,67 +157,3 @@ codes-laid cells from i code room r₁ r₂ within is first then =
     let place : from + (i + 1) ≡ k + 1 = omega arith in
     laid-next i (drop from codes) (code ∷ []) room r₁ r₂ (omega (arith, count, length-drop from codes)) first then
     ∙ ap (λ l. laid l room) (sym (ap (λ k. drop from (codes_of_neutral (neutral_of (take k cells)))) place ∙ ap (drop from) next ∙ parts))
-
--- ---- the places of the marks
-
-places-character : (calls : List OpenCall) (c : ℕ) (n : Neutral) → n.calls ≡ calls → call_places (with_character calls c n) ≡ call_places n
-places-character [] c n e = rw e refl
-places-character (call ∷ outer) c n e = rw e refl
-
-places-comma : (calls : List OpenCall) (n : Neutral) → n.calls ≡ calls → call_places (with_comma calls n) ≡ call_places n
-places-comma [] n e = rw e refl
-places-comma (call ∷ outer) n e = rw e refl
-
--- a mark more is a place more, and another cell none
-pub places-open : (n : Neutral) (cell : Cell) → is_open_after cell false ≡ true → call_places (with_cell n cell) ≡ length (codes_of_neutral n) ∷ call_places n
-places-open n (Byte c) e = absurd cc
-places-open n (Call mode k) e = refl
-places-open n Comma e = absurd cc
-places-open n (Gap k) e = absurd cc
-places-open n (Head k) e = absurd cc
-
-pub places-same : (n : Neutral) (cell : Cell) → is_open_after cell false ≡ false → call_places (with_cell n cell) ≡ call_places n
-places-same n (Byte c) e = places-character n.calls c n refl
-places-same n (Call mode k) e = absurd cc
-places-same n Comma e = places-comma n.calls n refl
-places-same n (Gap k) e = places-character n.calls 0 n refl
-places-same n (Head k) e = places-character n.calls 0 n refl
-
-module _ (cells : List Cell) (i count : ℕ) (within : i < length cells) where
-  abbrev places : List ℕ
-  places = call_places (neutral_of cells)
-
-  abbrev left : ℕ → List ℕ
-  left k = call_places (neutral_of (take k cells))
-
-  -- the cell in front of those that were looked at is no mark
-  pub places-passed : is_open_after (get_or cells i (Byte 0)) false ≡ false → drop count places ≡ left (i + 1) → drop count places ≡ left i
-  places-passed e is = is ∙ ap call_places (next-neutral cells i within) ∙ places-same (neutral_of (take i cells)) (get_or cells i (Byte 0)) e
-
-  -- the cell in front of those that were looked at is a mark
-  module _ (e : is_open_after (get_or cells i (Byte 0)) false ≡ true) (is : drop count places ≡ left (i + 1)) where
-    found : drop count places ≡ i ∷ left i
-    found =
-        is ∙ ap call_places (next-neutral cells i within) ∙ places-open (neutral_of (take i cells)) (get_or cells i (Byte 0)) e
-        ∙ ap (λ k. k ∷ left i) (codes-count (take i cells) ∙ length-take-le i cells (omega arith))
-
-    pub places-few : count < length places
-    places-few = omega (arith, ap (λ l. length l) found, length-drop count places)
-
-    place-is : get_or places count 0 ≡ i
-    place-is = let both = sym (drop_more places count 0 places-few) ∙ found in cc
-
-    pub places-found : drop (count + 1) places ≡ left i
-    places-found = let both = sym (drop_more places count 0 places-few) ∙ found in cc
-
-    pub place-laid : (room r₁ r₂ : List ℕ) → r₁ ≡ laid (take count places) room → r₂ ≡ laid_from count (i ∷ []) r₁ → r₂ ≡ laid (take (count + 1) places) room
-    place-laid room r₁ r₂ first then =
-        laid-next count (take count places) (i ∷ []) room r₁ r₂ (sym (length-take-le count places (omega (arith, places-few)))) first then
-        ∙ ap (λ l. laid l room) (ap (λ k. take count places ++ k ∷ []) (sym place-is) ∙ sym (take_more places count 0 places-few))
-
--- all are found where no cell is left
-pub places-all : (cells : List Cell) (count : ℕ) → count ≤ length (call_places (neutral_of cells)) → drop count (call_places (neutral_of cells)) ≡ call_places (neutral_of (take 0 cells)) → (count ≡ length (call_places (neutral_of cells))) × (take count (call_places (neutral_of cells)) ≡ call_places (neutral_of cells))
-places-all cells count few none =
-    let places = call_places (neutral_of cells) in
-    let all : count ≡ length places = omega (arith, ap (λ l. length l) none, length-drop count places, few) in
-    (all, take_all count places (omega (arith, all)))

@@ -6,7 +6,7 @@ pub use Rattle.std.specs.Prelude.{MatchOption, if◌then◌else◌, is_none, nat
 pub use Rattle.trac_c.specs.Buffers.{laid, laid_from}
 pub use Rattle.trac_c.specs.Forms.{item_code}
 pub use Rattle.trac_c.specs.Turns.{Goes, LacksRoom, SomeTurned, TellsTurn, followed_by, is_short, last_over, stands, told_again, turn_number, waits_for_input, wanted_by}
-pub use Rattle.trac_c.specs.View.{call_places, calls_codes, cell_code, codes_of_neutral, comma_code, has_call, is_open_after, mark_code, places_of, with_commas}
+pub use Rattle.trac_c.specs.View.{calls_codes, cell_code, codes_of_neutral, comma_code, has_call, is_open_after, mark_code, with_commas}
 pub use Rattle.trac_c.specs.declared.report.TracReport.{TracReport}
 pub use Rattle.trac_c.specs.declared.turn.Turn.{Turn}
 pub use Rattle.trac_c.specs.declared.turn.Turn.TheVariants.{Full, Over, Went}

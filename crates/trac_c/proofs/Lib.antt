@@ -3,6 +3,7 @@ mod Alone
 mod Blocks
 mod Buffers
 mod Coding
+mod CallPlaces
 mod Further
 mod KeptLooks
 mod ListedForms

@@ -43,15 +43,6 @@ calls_codes (call ∷ outer) before =
 abbrev pub codes_of_neutral : Neutral → List ℕ
 codes_of_neutral n = calls_codes n.calls n.base
 
--- the places of the marks of calls, which stand innermost first, behind what stands before them
-abbrev pub places_of : List OpenCall → List ℕ → List ℕ
-places_of [] before = []
-places_of (call ∷ outer) before = length (calls_codes outer before) ∷ places_of outer before
-
--- the places in a neutral string's codes at which the marks of its calls stand, the innermost first
-abbrev pub call_places : Neutral → List ℕ
-call_places n = places_of n.calls n.base
-
 -- the code of a comma mark; outside all calls, where none ever stands, it counts as a character
 abbrev pub comma_code : Bool → ℕ
 comma_code true = 258

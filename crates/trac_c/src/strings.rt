@@ -1,17 +1,16 @@
 //! The strings of a machine as numbers, and what else it shows of itself.
-ghost use Rattle.std.specs.Prelude.{◌≡◌, ◌-◌, ◌^◌, ◌<◌, ◌≤◌, drop, length, take};
+ghost use Rattle.std.specs.Prelude.{◌≡◌, ◌-◌, ◌≤◌, drop, length, take};
 ghost use Rattle.trac_language.specs.Store.{cells};
 ghost use Rattle.trac_language.specs.State.{size};
 ghost use Rattle.trac_language.specs.Rule.{rule};
 ghost use Rattle.trac_space.specs.Texts.{text_of_cells};
 ghost use Rattle.trac_functions.specs.Flat.{neutral_of};
-ghost use Rattle.trac_core.specs.OpenCalls.{next_texts};
+ghost use Rattle.trac_core.specs.OpenCalls.{call_places, next_texts};
 ghost use Rattle.trac_core.specs.Session.{awaited, next_function};
 ghost use Rattle.trac_core.specs.View.{neutral_in, row_of};
 ghost use Rattle.trac_c.specs.Buffers.{Lays, laid};
 ghost use Rattle.trac_c.specs.View.{codes_of_neutral, cell_code, rule_number, awaits_number};
 ghost use Rattle.trac_c.specs.View.{part_cells, mark_code, comma_code, is_open_after, has_call};
-ghost use Rattle.trac_c.specs.View.{call_places};
 ghost use Rattle.trac_core.specs.View.{dropped, steps_before_call, taken};
 
 use trac_core::{Awaits, Cell, Machine, ScanningRule};
@@ -74,29 +73,18 @@ fn lay_marks(cells: &[Cell], from: usize, room: &mut [u32]) -> usize
 }
 
 /// Puts the places at which the marks of the open calls stand in the neutral string to the front of a
-/// buffer, that of the innermost first, as many as fit, and gives how many calls are open.
+/// buffer, that of the innermost first, as many as fit, and gives how many calls are open. Goes from mark to
+/// mark and looks at no text.
 pub(crate) fn lay_calls(machine: &Machine<'static>, room: &mut [u32]) -> usize
     ensures { Lays (call_places (neutral_in machine.now.memory)) result room.old room.new }
 {
     let _size: u32 = machine.size();
-    lay_places(machine.neutral(), room)
-}
-
-/// Puts the places of the call marks of a neutral string to the front of a buffer, as far as it
-/// reaches, and gives how many calls are open.
-fn lay_places(cells: &[Cell], room: &mut [u32]) -> usize
-    requires { length cells.now < 2 ^ 32 }
-    ensures length { result ≡ length (call_places (neutral_of cells.now)) }
-    ensures laid { room.new ≡ laid (call_places (neutral_of cells.now)) room.old }
-{
     let mut count = 0;
-    let mut i = cells.len();
-    while i > 0 {
-        i -= 1;
-        if is_in_call(cells[i], false) {
-            put(i as u32, count, room);
-            count += 1;
-        }
+    let mut mark = None;
+    while let Some(place) = machine.mark_around(mark) {
+        put(place, count, room);
+        count += 1;
+        mark = Some(place);
     }
     count
 }

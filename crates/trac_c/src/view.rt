@@ -4,14 +4,13 @@ ghost use Rattle.std.specs.Prelude.{◌≡◌, ◌≤◌, drop, length, slice_ge
 ghost use Rattle.trac_language.specs.Rule.{rule};
 ghost use Rattle.trac_language.specs.State.{argument, size};
 ghost use Rattle.trac_core.specs.Machine.{MachineState};
-ghost use Rattle.trac_core.specs.OpenCalls.{next_texts};
+ghost use Rattle.trac_core.specs.OpenCalls.{call_places, next_texts};
 ghost use Rattle.trac_core.specs.Session.{awaited, next_function};
 ghost use Rattle.trac_core.specs.View.{dropped, neutral_in, row_of, steps_before_call, taken};
 ghost use Rattle.trac_c.specs.Machines.{machine_at};
 ghost use Rattle.trac_c.specs.Buffers.{Lays};
 ghost use Rattle.trac_c.specs.Forms.{name_of, display_of, codes_of, pointer_of};
 ghost use Rattle.trac_c.specs.View.{codes_of_neutral, rule_number, awaits_number, part_cells};
-ghost use Rattle.trac_c.specs.View.{call_places};
 ghost use Rattle.trac_c.specs.Printed.{next_text};
 ghost use Rattle.trac_c.specs.Sources.{source_number};
 ghost use Rattle.trac_events.specs.Sources.{next_source};

@@ -1,7 +1,7 @@
 -- The calls that are open, where their marks stand in the neutral string, and which of them the next
 -- step performs.
-use Rattle.std.specs.Prelude.{ℕ, zero, suc, ◌+◌, List, [], ◌∷◌, Option, None, Some, drop, length, sum_by}
-use Rattle.std.specs.Prelude.{Bool, false, ◌&&◌, if◌then◌else◌, is_none, nat_lt}
+use Rattle.std.specs.Prelude.{ℕ, zero, suc, ◌+◌, List, [], ◌∷◌, Option, None, Some, drop, length, slice_get, sum_by}
+use Rattle.std.specs.Prelude.{Bool, false, ◌&&◌, ◌==◌, if◌then◌else◌, is_none, nat_lt}
 use Rattle.trac_language.specs.Rule.{Rule, EndCall, rule}
 use Rattle.trac_language.specs.Text.{Text}
 use Rattle.trac_language.specs.State.{Memory, OpenCall as Call, arguments, call_cells}
@@ -9,26 +9,12 @@ use Rattle.trac_language.specs.Step.{function_of}
 use Rattle.trac_functions.specs.Flat.{Neutral}
 use Rattle.trac_core.specs.declared.machine.open_calls.CallMark.{CallMark}
 use Rattle.trac_core.specs.declared.machine.open_calls.NextCall.{NextCall}
-use Rattle.trac_core.specs.declared.machine.open_calls.OpenCall.{OpenCall}
 use Rattle.trac_core.specs.Machine.{MachineState}
 
 -- the cells that stand before the mark of a call that is open within the calls `outer`, where the base text
 -- has `base` cells
 abbrev pub cells_before : ℕ → List Call → ℕ
 cells_before base outer = base + sum_by call_cells outer
-
--- the innermost of some open calls, where the base text has `base` cells
-abbrev pub innermost_within : ℕ → List Call → Option OpenCall
-innermost_within base [] = None
-innermost_within base (call ∷ outer) = Some (record {
-  mode = call.mode;
-  mark = cells_before base outer;
-  depth = length outer;
-})
-
--- the innermost call that is open in a neutral string
-abbrev pub innermost_of : Neutral → Option OpenCall
-innermost_of n = innermost_within (length n.base) n.calls
 
 -- the mark of an open call by its number, where the innermost call has the number 0 and the base text has
 -- `base` cells
@@ -43,6 +29,26 @@ mark_within (suc number) base (call ∷ outer) = mark_within number base outer
 -- the mark of an open call of a neutral string by its number
 abbrev pub mark_of : ℕ → Neutral → Option CallMark
 mark_of number n = mark_within number (length n.base) n.calls
+
+-- the places of the marks of some open calls, the innermost first, where the base text has `base` cells
+abbrev pub places_within : ℕ → List Call → List ℕ
+places_within base [] = []
+places_within base (call ∷ outer) = cells_before base outer ∷ places_within base outer
+
+-- the places of the marks of the calls that are open in a neutral string, the innermost first
+abbrev pub call_places : Neutral → List ℕ
+call_places n = places_within (length n.base) n.calls
+
+-- the first of these that comes after a given one, if that one is among them; without a given one the first
+abbrev pub next_after : Option ℕ → List ℕ → Option ℕ
+next_after None places = slice_get places 0
+next_after (Some place) [] = None
+next_after (Some place) (first ∷ others) =
+    if place == first then slice_get others 0 else next_after (Some place) others
+
+-- the place of the mark of the call around the one with this mark, and of the innermost call without a mark
+abbrev pub mark_around : Option ℕ → Neutral → Option ℕ
+mark_around mark n = next_after mark (call_places n)
 
 -- the call among these, innermost first, that a step by the rule performs
 abbrev pub call_performed_by : Rule → List Call → Option NextCall

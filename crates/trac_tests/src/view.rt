@@ -74,6 +74,11 @@ fn the_two_strings(rt: HostRuntime) {
             ]
         )
     );
+    // the marks of the two calls stand at the places 4 and 0
+    assert_eq!(rt; machine.mark_around(None), Some(4));
+    assert_eq!(rt; machine.mark_around(Some(4)), Some(0));
+    assert_eq!(rt; machine.mark_around(Some(0)), None);
+    assert_eq!(rt; machine.mark_around(Some(1)), None);
 }
 
 /// Makes steps up to this number of steps since the run began, and gives the call that comes next.

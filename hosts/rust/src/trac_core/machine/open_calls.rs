@@ -7,16 +7,6 @@ use crate::trac_forms::{Cell, Work};
 use crate::trac_functions::arguments::Arguments;
 use crate::trac_language::{Function, Mode};
 
-/// A call that is open.
-#[derive(Clone, Copy, Debug, PartialEq, Eq)]
-pub struct OpenCall {
-    pub mode: Mode,
-    /// The place of its mark in the neutral string, in cells from 0.
-    pub mark: usize,
-    /// How many calls are open around it.
-    pub depth: usize,
-}
-
 /// The mark of an open call.
 #[derive(Clone, Copy, Debug, PartialEq, Eq)]
 pub struct CallMark {
@@ -39,11 +29,13 @@ pub struct NextCall {
 }
 
 impl<'a> Machine<'a> {
-    /// The innermost open call: the one that the next right parenthesis performs. None if no call is open.
-    /// Looks at the mark of each open call and at no text. This processor's own choice.
-    pub fn innermost_call(&self) -> Option<OpenCall>
+    /// The place of the mark of the call around the one whose mark stands at `mark`, and of the innermost
+    /// call where `mark` is `None`: in the neutral string, in cells from 0. None if no call is open around
+    /// it, and if no mark of a call stands at `mark`. Looks at one mark, however many calls are open and
+    /// however long they are. This processor's own choice.
+    pub fn mark_around(&self, mark: Option<u32>) -> Option<u32>
     {
-        innermost_of(&self.work)
+        mark_around(&self.work, mark)
     }
 
     /// The mark of an open call. The innermost call has the number 0, the one around it the number 1, and so
@@ -97,17 +89,33 @@ pub(super) fn arguments_left(work: &Work, mut arguments: Arguments) -> u32
     count
 }
 
-/// The innermost open call.
-fn innermost_of(work: &Work) -> Option<OpenCall>
+/// The place of the mark of the call around the one with this mark, and of the innermost call without a
+/// mark.
+fn mark_around(work: &Work, mark: Option<u32>) -> Option<u32>
 {
-    let Some(place) = work.last_call() else {
-        return None;
+    let Some(place) = mark else {
+        return work.last_call();
     };
-    Some(OpenCall {
-        mode: mode_at(work, place),
-        mark: place as usize,
-        depth: calls_around(work, place),
-    })
+    if is_mark_at(work, place) {
+        work.call_before(place)
+    } else {
+        None
+    }
+}
+
+/// Whether the mark of a call stands at a place of the neutral string.
+fn is_mark_at(work: &Work, place: u32) -> bool
+{
+    let Some(cell) = work.neutral_at(place) else {
+        return false;
+    };
+    is_mark(cell)
+}
+
+/// Whether a cell is the mark of a call.
+fn is_mark(cell: Cell) -> bool
+{
+    matches!(cell, Cell::Call(_, _))
 }
 
 /// The mark of the open call with this number, the innermost being 0.
