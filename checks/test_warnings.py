@@ -102,7 +102,9 @@ KINDS = [
     (b"#(ds,G,(A and B))#(ss,G,A,B)#(ps,##(cl,G,x)#(CL,G))'", []),
     (b"#(ds,G,(A and B))#(ss,G,A,B)#(ps,##(cl,G))'", []),
     (b"#(ds,G,(A and B))#(ss,G,A,B)#(ps,##(cs,G,x)##(cl,G,x))'", []),
-    # a call that is printed, and nothing else; what is printed is the argument of ps, or all that a string leaves
+    # a call that ends what is printed, if it is the first; what is printed is the argument of ps, or all that a string
+    # leaves
+    (b"#(ps,(2 and 3 are #(ad,2,3)))'", ['line 1, column 1: a call is printed here and not performed, of ad']),
     (b"#(ps,(#(ps,x)))'", ['line 1, column 1: a call is printed here and not performed, of ps']),
     (b"#(ps,a)' (##(AD,1,(2)) )'", ['line 1, column 9: a call is printed here and not performed, of AD']),
     (b"#(ps,(#(ps,x) prints x))#(ps,(#(zz,x)))#(ps,(#(ps,x)#(ps,y)))#(ps,(# (ps,x)))'", [
@@ -155,6 +157,19 @@ KINDS = [
     (b"#(ds,A,x)#(ps,#(cc,A,#(rs)))'y'",
      ["line 1, column 22: what isn't protected always reads, here in a default value of cc"]),
     (b"#(ds,A,x)#(ps,#(cc,A,(#(rs))))'", []),
+    # branches and default values that print or change forms, and aren't protected; a prompt before an answer is none
+    (b"#(eq,a,b,#(ps,x),#(ps,y))'",
+     ["line 1, column 10: what isn't protected is always performed, here in an argument of eq",
+      "line 1, column 18: what isn't protected is always performed, here in an argument of eq"]),
+    (b"#(gr,2,1,(#(ps,x)),(#(ps,y)))#(ds,A,#(ps,Name?)#(rs))'Ann'", []),
+    (b"#(ds,L,x)#(ps,#(cc,L,#(ds,L,y))#(cc,L,#(cr,L)))'",
+     ["line 1, column 22: what isn't protected is always performed, here in an argument of cc",
+      "line 1, column 39: what isn't protected is always performed, here in an argument of cc"]),
+    (b"#(eq,#(ds,A,x),,(#(ps,a)),)#(eq,a,a,#(cl,A),)#(eq,a,a,#(cs,A),)'", []),
+    # commas in numbers
+    (b"#(ps,#(ad,1,000,5))'", ['line 1, column 6: digits behind a comma are another argument, here of ad']),
+    (b"#(ps,#(SU,5,12,500))'", ['line 1, column 6: digits behind a comma are another argument, here of SU']),
+    (b"#(ps,#(dv,1,250,500)#(ml,1000,250,5)#(ad,12,34,56)#(ad,1,250)#(ad,1,250,none))'", []),
     # a parenthesis in a value
     (b"#(ds,A,(#(ps,x)))#(ds,B,((y))##(cl,A))'", []),
     (b"#(ds,B,#(ps,(((x)))'",
@@ -239,7 +254,7 @@ class Warnings(unittest.TestCase):
 
     def test_each_broken_script_is_told(self):
         broken = sorted(glob.glob(os.path.join(FOLDER, 'broken', '*.trac')))
-        self.assertEqual(len(broken), 40)
+        self.assertEqual(len(broken), 43)
         for path in broken:
             with self.subTest(script=path):
                 self.assertGreater(len(wanted(path)), 0)

@@ -27,7 +27,7 @@ use Rattle.trac_warnings.specs.Blanks.{trimmed}
 use Rattle.trac_warnings.specs.Gaps.{highest_gap, is_absent, stands_in, stands_in_name, stands_in_words}
 use Rattle.trac_warnings.specs.Letters.{differ_by_letters, stands_in_letters}
 use Rattle.trac_warnings.specs.Operands.{adds, are_thousands, is_number, operand_among, suspicion_of_operand, takes_numbers}
-use Rattle.trac_warnings.specs.Printed.{begins_with_line_end, behind_call, has_two_at_end}
+use Rattle.trac_warnings.specs.Printed.{begins_with_line_end, behind_call, closes_at_end, has_two_at_end}
 use Rattle.trac_warnings.specs.Suspicions.{is_called_alone, is_written, suspicion_of_name}
 use Rattle.trac_warnings.specs.Watched.{Said, said}
 use Rattle.trac_warnings.specs.declared.origin.Origin.{Origin}
@@ -215,11 +215,12 @@ abbrev pub prints : Function → Bool
 prints PrintString = true
 prints _ = false
 
--- the warning of a call that prints a text in which a call of a function stands, whose name it gives
+-- the warning of a call that prints a text whose first call of a function ends it, apart from blanks and layout; it
+-- gives the function's name
 abbrev pub print_warnings : Function → Ending → List Said
 print_warnings function ending =
-    let behind = behind_call (text_of_cells (argument_of ending.arguments.now 1)) in
-    if prints function && not (length behind == 0)
+    let behind = behind_call (text_of_cells (trimmed (argument_of ending.arguments.now 1))) in
+    if prints function && (not (length behind == 0) && closes_at_end 1 behind)
     then of_text CallPrinted ending.begin (take 2 behind) ∷ [] else []
 
 -- whether a function changes the meta character

@@ -1,6 +1,7 @@
 -- Calls in a text that is printed, and line ends.
-use Rattle.std.specs.Prelude.{◌==◌, ◌&&◌, ◌||◌, Bool, false, List, [], ◌∷◌, if◌then◌else◌}
+use Rattle.std.specs.Prelude.{ℕ, ◌-◌, ◌==◌, ◌&&◌, ◌||◌, Bool, false, List, [], ◌∷◌, length, if◌then◌else◌}
 use Rattle.trac_language.specs.Text.{Text}
+use Rattle.trac_warnings.specs.Origins.{more}
 use Rattle.trac_warnings.specs.Spelling.{names_function}
 
 -- a text without a number sign at its head, if one is there
@@ -23,6 +24,14 @@ abbrev pub behind_call : Text → Text
 behind_call [] = []
 behind_call (c ∷ text) =
     if names_function 41 (behind_opening (c ∷ text)) then behind_opening (c ∷ text) else behind_call text
+
+-- whether the last character of a text closes the outermost of so many open parentheses, and none before it does
+abbrev pub closes_at_end : (opened : ℕ) → Text → Bool
+closes_at_end opened [] = false
+closes_at_end opened (c ∷ text) =
+    if c == 40 then closes_at_end (more opened 1) text
+    else (if c == 41 then (if opened == 1 then length text == 0 else closes_at_end (opened - 1) text)
+    else closes_at_end opened text)
 
 -- whether a line ends with CR and LF in a text, before which a CR stands or doesn't
 abbrev pub has_two_at_end : (is_behind : Bool) → Text → Bool

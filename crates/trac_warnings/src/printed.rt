@@ -3,9 +3,10 @@ ghost use Rattle.std.specs.Prelude.{◌≡◌, ◌<◌, ◌≤◌, false, OnOk, 
 ghost use Rattle.trac_space.specs.Texts.{text_of_cells};
 ghost use Rattle.trac_warnings.specs.Performed.{Warns, changes_meta, meta_change_warnings, print_warnings, prints};
 ghost use Rattle.trac_warnings.specs.Printed.{begins_with_line_end, behind_call, behind_opening, behind_parenthesis};
-ghost use Rattle.trac_warnings.specs.Printed.{behind_sign, has_two_at_end};
+ghost use Rattle.trac_warnings.specs.Printed.{behind_sign, closes_at_end, has_two_at_end};
 ghost use Rattle.trac_warnings.specs.Watched.{Kept};
 
+use crate::blanks::trimmed;
 use crate::performed::{Ending, characters_of, warn, warn_of};
 use crate::spelling::names_function;
 use crate::warning::{Suspicion, Warning};
@@ -14,7 +15,7 @@ use trac_events::argument;
 use trac_language::Function;
 use trac_space::{Cell, character_of};
 
-/// Looks at what a call prints: whether a call of a function stands in it. An error means that memory ran out.
+/// Looks at what a call prints: whether its first call of a function ends it. An error means that memory ran out.
 #[tactic(auto, using(crate::proofs::Keeping::keeping))]
 pub(crate) fn look_at_print<A: Allocator + Copy>(
     warnings: &mut Vec<Warning<A>, A>,
@@ -29,9 +30,9 @@ pub(crate) fn look_at_print<A: Allocator + Copy>(
     if !prints(function) {
         return Ok(());
     }
-    let text = characters_of(alloc, argument(ending.arguments, 1))?;
+    let text = characters_of(alloc, trimmed(argument(ending.arguments, 1)))?;
     let behind = behind_call(&text);
-    if behind.is_empty() {
+    if behind.is_empty() || !closes_at_end(behind) {
         return Ok(());
     }
     let mut name = Vec::new(alloc);
@@ -88,6 +89,24 @@ fn behind_parenthesis(text: &[u8]) -> &[u8]
         [b'(', behind @ ..] => behind,
         _ => &[],
     }
+}
+
+// Whether the last character of a text closes a parenthesis that is open before the text, and none before it does.
+fn closes_at_end(text: &[u8]) -> bool
+    ensures { result ≡ closes_at_end 1 text.now }
+{
+    let mut opened: usize = 1;
+    for (i, byte) in text.iter().enumerate() {
+        if *byte == b'(' {
+            opened = opened.saturating_add(1);
+        } else if *byte == b')' {
+            if opened == 1 {
+                return text[i + 1..].is_empty();
+            }
+            opened = opened.saturating_sub(1);
+        }
+    }
+    false
 }
 
 /// Looks at a call that makes a character of a line end the meta character. An error means that memory ran out.
