@@ -76,7 +76,9 @@ class Npm(unittest.TestCase):
             told = os.path.join(folder, name[:-4] + 'warnings')
             with self.subTest(script=name), open(told, encoding='utf-8') as file:
                 self.assertEqual(lines, [line for line in file.read().splitlines() if line.startswith('line ')])
-        self.assertEqual(self.told['endless'], {'fate': 'steps', 'steps': 500, 'peak': 36, 'warnings': []})
+        self.assertEqual(self.told['endless'], {'fate': 'steps', 'steps': 500, 'peak': 36, 'warnings': [
+            {'line': 1, 'column': 9, 'text': 'in the value of L, column 1: this call was open when the run ended'},
+            {'line': 1, 'column': 9, 'text': 'in the value of L, column 5: the run ended here'}]})
         self.assertEqual(self.told['many'], 20000)
 
     def test_what_each_step_needs(self):

@@ -166,8 +166,11 @@ def test_many_suspicions(trac_t64):
     assert [each.text for each in made.suspicions] == [
         f'no function has the name no{number}' for number in range(20000)]
     made = trac_t64.check(LOOP, steps=5000)
-    assert made == trac_t64.Check([], trac_t64.Fate.STEPS, 5000, 36)
-    assert made and made.fault == 'allowance used up: 5000 steps, peak 36 cells'
+    assert made == trac_t64.Check([
+        trac_t64.Suspicion(1, 9, 'in the value of L, column 1: this call was open when the run ended'),
+        trac_t64.Suspicion(1, 9, 'in the value of L, column 5: the run ended here; the form L was called 830 times'),
+    ], trac_t64.Fate.STEPS, 5000, 36)
+    assert not made and made.fault == 'allowance used up: 5000 steps, peak 36 cells'
     assert not trac_t64.check("#(pss,a)'") and trac_t64.check("#(ps,a)'").fault == ''
     for refused, words in (({'cells': 0}, 'cells must be from 1'), ({'steps': 0}, 'steps must be from 1')):
         with pytest.raises(ValueError, match=words):

@@ -116,7 +116,8 @@ def test_what_is_suspicious(kernel):
                                          '3     1       no function has the name pss')], 'ok')
     assert run(kernel, "%check\n#(ps,a)'") == ([('stream', 'nothing is suspicious\n')], 'ok')
     assert run(kernel, '%steps 9\n%check\n' + FOREVER) == (
-        [('stream', 'allowance used up: 9 steps, peak 32 cells\n')], 'ok')
+        [('table', 'line  column  what is suspicious\n3     1       the run ended here'),
+         ('stream', 'allowance used up: 9 steps, peak 32 cells\n')], 'ok')
     run(kernel, '%steps 1000000')
     assert run(kernel, "#(ps,#(cl,A))'") == ([('stream', 'kept')], 'ok')
 

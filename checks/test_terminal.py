@@ -751,13 +751,15 @@ class Files(Room):
                          ['27-typographic-apostrophe.trac', '32-line-end-as-meta.trac', 'listing-3-cr-lf.trac',
                           'listing-7-left-out.trac'])
         self.assertEqual((''.join(line for line in output.splitlines(True) if line not in looks), lines, status),
-                         (''.join(wanted), '', 7))
+                         (''.join(wanted), '', 1))
         clean, endless = self.put('clean', "#!trac_terminal\n#(ps,(a))'"), self.put('endless', LOOP)
         none, odd = self.path('none'), self.put('odd', b"#(cl,\xff)'")
         self.assertEqual(piped('', '--check', clean, '/dev/null'), ('', '', 0))
         output, lines, status = piped('', '--check', '--steps', '500', odd, endless, none)
         self.assertEqual((output, status), (
             f'{odd}: line 1, column 1: no form has the name \\xff\n'
+            f'{endless}: line 1, column 9: in the value of L, column 1: this call was open when the run ended\n'
+            f'{endless}: line 1, column 9: in the value of L, column 5: the run ended here\n'
             f'{endless}: allowance used up: 500 steps, peak 36 cells\n', 4))
         self.assertTrue(lines.startswith(f"trac_terminal: can't read {none}: "))
         many = self.put('many', ''.join(f'#(no{number})' for number in range(20000)) + "'")

@@ -27,20 +27,22 @@ KINDS = [
     (b"#(ps,a))#(ps,b)'",
      ['line 1, column 8: a right parenthesis ends no call of its string']),
     (b"\n #(ps,#(ad,1,2)'",
-     ['line 2, column 2: a call is still open where its string ends',
-      'line 2, column 16: the meta character ends the string inside parentheses']),
+     ['line 2, column 2: a call is still open where its string ends']),
     (b"#(ds,A,#(rs))'#(ps,b'",
      ['line 1, column 1: a call is still open where its string ends',
-      'line 1, column 14: the meta character ends the string inside parentheses',
-      'line 1, column 15: a call is still open where its string ends',
-      'line 1, column 21: the meta character ends the string inside parentheses']),
+      'line 1, column 15: a call is still open where its string ends']),
     (b"#(ps,(It's here.))'",
-     ['line 1, column 6: a left parenthesis has no match in its string',
-      'line 1, column 9: the meta character ends the string inside parentheses',
-      'line 1, column 17: a right parenthesis ends no call of its string',
-      'line 1, column 18: a right parenthesis ends no call of its string']),
+     ['line 1, column 9: the meta character ends the string inside parentheses']),
+    (b"#(ps,(see (It)'", ['line 1, column 6: a left parenthesis has no match in its string']),
+    (b"#(ds,greet,(#(ps,(It's WHO))))\n#(ss,greet,WHO)#(ps,a,b)#(cl,greet,Ada)'",
+     ['line 1, column 21: the meta character ends the string inside parentheses']),
+    # a meta character between letters, where all calls have ended
+    (b"#(rs)'a'b'", []),
     (b"#(ds,F,(#(ps,s)))#(ss,F,s)'",
      ['line 1, column 18: a text of ss also stands in the name of a call: s']),
+    (b"#(ds,F,(#(ps,s)))#(ss,F,s)#(cl,F,x)#(px)'",
+     ['line 1, column 18: a text of ss also stands in the name of a call: s',
+      'line 1, column 36: no function has the name px']),
     (b"#(ds,F,(#(ps,N)))#(ss,F,N)'", []),
     (b"#(ps,a)'\n#(ps,b)\n", ['line 2, column 1: no meta character ends the string']),
     (b"\xef\xbb\xbf#(ps,a)'", ['line 1, column 1: a byte order mark stands before the script']),
@@ -142,6 +144,8 @@ KINDS = [
                                         'blanks or line ends around it:  tea ']),
     (b"#(ds,tea,5)#(ps,#(cl,##(rs)))'tea\n'", ['line 1, column 17: no form has this name, but one has it without '
                                                 'the blanks or line ends around it: tea\\n']),
+    (b"#(ds,tea,(a X))#(ss, tea,X)#(ps,#(cl,tea,b))'", ['line 1, column 16: no form has this name, but one has it '
+                                                        'without the blanks or line ends around it:  tea']),
     (b"#(ds,tea,5)#(ps,#(eq,#(cl,tea ),,a,b))'", []),
     (b"#(ps,#(eq,yes ,yes,a,b))'",
      ['line 1, column 6: the sides of eq differ only by blanks or line ends around them: yes ']),
@@ -174,20 +178,21 @@ KINDS = [
     (b"#(ds,A,(#(ps,x)))#(ds,B,((y))##(cl,A))'", []),
     (b"#(ds,B,#(ps,(((x)))'",
      ['line 1, column 1: a call is still open where its string ends',
-      'line 1, column 8: a call is still open where its string ends',
-      'line 1, column 20: the meta character ends the string inside parentheses']),
+      'line 1, column 8: a call is still open where its string ends']),
     (b"#(ds,B,#(ps,((((x))'",
-     ['line 1, column 13: a left parenthesis has no match; characters dropped: 7',
-      'line 1, column 20: the meta character ends the string inside parentheses']),
+     ['line 1, column 13: a left parenthesis has no match; characters dropped: 7']),
     # how it is written
     (b":(ps,x)'", ['line 1, column 1: :( begins no call; write #( or ##(']),
     (b"# (cl,x)##\n (rs)'", ['line 1, column 1: a blank behind a number sign: no call begins here',
                             'line 1, column 10: a blank behind a number sign: no call begins here']),
-    (b"#[ps,x]'", ['line 1, column 1: #[ begins no call; write #(',
-                   'line 1, column 6: the function takes no notice of the argument x]']),
+    (b"#[ps,x]'", ['line 1, column 1: #[ begins no call; write #(']),
+    (b"#[ds,n,6]#(ps,#(cl,n))'", ['line 1, column 1: #[ begins no call; write #(']),
+    (b":(ds,n,6)#(ps,#(cl,n),x)'", ['line 1, column 1: :( begins no call; write #( or ##(',
+                                    'line 1, column 23: the function takes no notice of the argument x']),
+    (b"(ds,n,6)#(ps,#(cl,n))'",
+     ['line 1, column 1: no number sign stands before the parenthesis, so this is no call of ds']),
     (b"#[ps,(a,b)]'(ps,x)", [
         'line 1, column 1: #[ begins no call; write #(',
-        'line 1, column 7: the function takes no notice of the argument a,b]',
         'line 1, column 13: no number sign stands before the parenthesis, so this is no call of ps',
         'line 1, column 13: no meta character ends the string']),
     # texts: no function is named
@@ -196,8 +201,7 @@ KINDS = [
      ['line 1, column 1: numbers stand at the heads of lines, and are text here']),
     (b"10 #(ps,a)\n20 #(ps,b)'", []),
     (b"#(ps,a);\n",
-     ['line 1, column 1: no meta character ends the string',
-      "line 1, column 8: no apostrophe ends a string; where this byte is to end it, write #(cm,X)' first: ;"]),
+     ["line 1, column 8: no apostrophe ends a string; where this byte is to end it, write #(cm,X)' first: ;"]),
     # a typographic apostrophe at the end, unless another byte was made the meta character
     (b"#(ps,a)\xe2\x80\x99\n", ["line 1, column 8: a typographic apostrophe ends no string; write ' for it"]),
     (b"#(ps,a)'#(ps,b)\xe2\x80\x99 \r\n",
@@ -206,6 +210,31 @@ KINDS = [
     (b"#(ps,a)\xe2\x80\x99\n#(ps,b)'", []),
     (b"", []),
 ]
+
+# A script that a fault ends, the limits of its run, its lines and its status.
+FAULTS = [
+    # one form was called 100 times, or 99 times
+    (b"#(ds,A,(#(cl,A)))#(cl,A)'", ['--steps', '617'],
+     ['line 1, column 9: in the value of A, column 1: the run ended here; the form A was called 100 times',
+      'allowance used up: 617 steps, peak 36 cells'], 3),
+    (b"#(ds,A,(#(cl,A)))#(cl,A)'", ['--steps', '616'],
+     ['line 1, column 9: in the value of A, column 1: this call was open when the run ended',
+      'line 1, column 9: in the value of A, column 7: the run ended here',
+      'allowance used up: 616 steps, peak 36 cells'], 3),
+    # the innermost three of four calls that are open
+    (b"#(ps,#(ps,#(ps,#(ps,hello))))'", ['--steps', '30'],
+     ['line 1, column 6: this call was open when the run ended',
+      'line 1, column 11: this call was open when the run ended',
+      'line 1, column 16: this call was open when the run ended',
+      'line 1, column 26: the run ended here',
+      'allowance used up: 30 steps, peak 37 cells'], 3),
+    # a string that finds no room, behind the layout before it
+    (b"#(ps,a)'\r\n\n#(ps,long text)'", ['--cells', '20'],
+     ['line 3, column 1: the run ended here', 'workspace full: 24 steps, peak 15 cells'], 1),
+    (b"#(ps,a)'", ['--cells', '5'], ['line 1, column 1: the run ended here',
+                                     'workspace full: 0 steps, peak 0 cells'], 1),
+]
+
 
 def wanted(path):
     """The lines that are kept beside a script."""
@@ -231,7 +260,13 @@ class Warnings(unittest.TestCase):
     def test_a_fault_is_told(self):
         lines, status = trace(b"#(zz)'", '--warn', '--steps', '20')
         self.assertEqual((lines, status), (['line 1, column 1: no function has the name zz',
+                                            'line 1, column 7: the run ended here',
                                             'allowance used up: 20 steps, peak 13 cells'], 3))
+
+    def test_a_fault_is_told_with_its_place_and_the_open_calls(self):
+        for script, words, lines, status in FAULTS:
+            with self.subTest(script=script):
+                self.assertEqual(trace(script, '--warn', *words), (lines, status))
 
     def test_examples(self):
         scripts = sorted(glob.glob('**/*.trac', root_dir=FOLDER, recursive=True))
@@ -243,7 +278,10 @@ class Warnings(unittest.TestCase):
                 with open(path, 'rb') as file:
                     text = file.read()
                 lines = wanted(path)
-                self.assertEqual(trace(text, *WORDS), (lines, 7 if lines else run(text)[2]))
+                # a fault is told as it comes in a workspace of the usual size
+                is_fault = bool(lines) and not lines[-1].startswith('line ')
+                self.assertEqual(trace(text, *(WORDS[:1] if is_fault else WORDS)),
+                                 (lines, 7 if lines and not is_fault else run(text)[2]))
                 kept += os.path.exists(path[:-5] + '.warnings')
         self.assertEqual(kept, len(glob.glob('**/*.warnings', root_dir=FOLDER, recursive=True)))
 
@@ -254,7 +292,7 @@ class Warnings(unittest.TestCase):
 
     def test_each_broken_script_is_told(self):
         broken = sorted(glob.glob(os.path.join(FOLDER, 'broken', '*.trac')))
-        self.assertEqual(len(broken), 43)
+        self.assertEqual(len(broken), 44)
         for path in broken:
             with self.subTest(script=path):
                 self.assertGreater(len(wanted(path)), 0)
@@ -294,7 +332,11 @@ class Warnings(unittest.TestCase):
             self.assertTrue(lines[3].startswith(f'{ill}: warnings 2; input ended: '))
             self.assertEqual((said, status), ('', 7))
             lines, said, status = check(loops, ill, well)
-            self.assertTrue(lines[0].startswith(f'{loops}: warnings 0; allowance used up: 1000000 steps'))
+            self.assertEqual(lines[:2], [
+                f'{loops}: line 1, column 9: in the value of A, column 1: this call was open when the run ended',
+                f'{loops}: line 1, column 9: in the value of A, column 7: the run ended here; '
+                'the form A was called 166663 times'])
+            self.assertTrue(lines[2].startswith(f'{loops}: warnings 2; allowance used up: 1000000 steps'))
             self.assertEqual((said, status), ('', 3))
             lines, said, status = check(os.path.join(folder, 'none'), folder, ill)
             self.assertEqual(said.splitlines(), [

@@ -25,7 +25,10 @@ const MOST_PLACES = 200;
 /** The parts of the engine's lines that quote the script: a name, or an argument. */
 const AS_WRITTEN = new RegExp('((?<=^in the value of ).*?(?=, column \\d)|(?<=than gaps: ).*(?= has \\d+ gap)'
     + '|(?<=(?:has the name|leaves out the function|no notice of the argument|given, of the form|in the form'
-    + '|in the name of a call:|inside longer words:|not performed, of|small letters:) ).*$)', 's');
+    + '|in the name of a call:|inside longer words:|not performed, of|small letters:) ).*$'
+    + '|(?<=ended here; the form ).*(?= was called \\d+ times$))', 's');
+/** The engine's lines on the end of a run that a fault ended. */
+const OF_THE_END = /^(?:in the value of .*?, column \d+: )?(?:the run ended here|this call was open when the run ended)/s;
 
 /**
  * A place in a text, in the units of a string.
@@ -86,7 +89,10 @@ export class Warnings {
             slow = isSlow ? slow + 1 : 0;
             const isAll = fate !== 'steps' || most === steps;
             if (isAll || most === MOST_CHECKED || slow === TRIES) {
-                this.show(text, warnings, isAll ? Infinity : most);
+                // a fault that comes only from the bounds of this look isn't one of the script
+                const isOfScript = isAll && (fate !== 'workspace' || cells <= MOST_CLEARED);
+                this.show(text, warnings.filter((each) => isOfScript || !OF_THE_END.test(each.text)),
+                    isAll ? Infinity : most);
                 return;
             }
             if (!isSlow) most = Math.min(2 * most, steps, MOST_CHECKED);

@@ -13,34 +13,19 @@ use Rattle.trac_warnings.specs.Findings.{is_noted, is_of_form, is_repeated, once
 use Rattle.trac_warnings.specs.Watched.{said}
 use Rattle.trac_warnings.specs.declared.findings.Findings.{Findings}
 use Rattle.trac_warnings.specs.declared.warning.Warning.{Warning}
+use Rattle.trac_warnings.proofs.Seen.{itself, seen-insert, seen-lookup}
 use Rattle.trac_checker.specs.FoundSoFar.{FoundSoFar, counts_with, found_in, is_said_again, reported_with, said_cmp, with_all, with_said}
 use Rattle.trac_checker.specs.Warned.{found_of}
 
--- an order of keys, seen by what they stand for
+-- a key counted once more, seen by what it stands for
 module _ {K T : Type 0} (f : K → T) (cmp : K → K → Ordering) (to : T → T → Ordering) (same : (a b : K) → cmp a b ≡ to (f a) (f b)) where
-  abbrev seen : List (K × ℕ) → List (T × ℕ)
-  seen entries = map (λ entry. (f entry.0, entry.1)) entries
+  abbrev counts : List (K × ℕ) → List (T × ℕ)
+  counts entries = map (λ entry. (f entry.0, entry.1)) entries
 
-  seen-match : (o : Ordering) (a b c : List (K × ℕ)) → seen (match_ordering o a b c) ≡ match_ordering o (seen a) (seen b) (seen c)
-  seen-match Less a b c = refl
-  seen-match Equal a b c = refl
-  seen-match Greater a b c = refl
-
-  seen-insert : (entries : List (K × ℕ)) (key : K) (n : ℕ) → seen (insert_entry cmp entries key n) ≡ insert_entry to (seen entries) (f key) n
-  seen-insert [] key n = refl
-  seen-insert (x ∷ entries) key n =
-      seen-match (cmp key x.0) ((key, n) ∷ x ∷ entries) ((x.0, n) ∷ entries) (x ∷ insert_entry cmp entries key n)
-      ∙ ap (λ o. match_ordering o ((f key, n) ∷ (f x.0, x.1) ∷ seen entries) ((f x.0, n) ∷ seen entries) ((f x.0, x.1) ∷ seen (insert_entry cmp entries key n))) (same key x.0)
-      ∙ ap (λ t. match_ordering (to (f key) (f x.0)) ((f key, n) ∷ (f x.0, x.1) ∷ seen entries) ((f x.0, n) ∷ seen entries) ((f x.0, x.1) ∷ t)) (seen-insert entries key n)
-
-  seen-lookup : (entries : List (K × ℕ)) (key : K) → lookup (is_at (cmp key)) entries ≡ lookup (is_at (to (f key))) (seen entries)
-  seen-lookup [] key = refl
-  seen-lookup (x ∷ entries) key =
-      ap (λ o. cond (is_eq o) (Some x.1) (lookup (is_at (cmp key)) entries)) (same key x.0)
-      ∙ ap (cond (is_eq (to (f key) (f x.0))) (Some x.1)) (seen-lookup entries key)
-
-  pub counted : (entries : List (K × ℕ)) (key : K) → seen (insert_entry cmp entries key (once_more (lookup (is_at (cmp key)) entries))) ≡ insert_entry to (seen entries) (f key) (once_more (lookup (is_at (to (f key))) (seen entries)))
-  counted entries key = seen-insert entries key (once_more (lookup (is_at (cmp key)) entries)) ∙ ap (λ n. insert_entry to (seen entries) (f key) (once_more n)) (seen-lookup entries key)
+  pub counted : (entries : List (K × ℕ)) (key : K) → counts (insert_entry cmp entries key (once_more (lookup (is_at (cmp key)) entries))) ≡ insert_entry to (counts entries) (f key) (once_more (lookup (is_at (to (f key))) (counts entries)))
+  counted entries key =
+      seen-insert f (λ n. n) cmp to same entries key (once_more (lookup (is_at (cmp key)) entries))
+      ∙ ap (λ n. insert_entry to (counts entries) (f key) (once_more n)) (sym (itself (lookup (is_at (cmp key)) entries)) ∙ seen-lookup f (λ n. n) cmp to same entries key)
 
 -- a text is among texts
 among : {A : Type 0} (text : Text) (texts : List (Vec ℕ A)) → list_any (is_at (λ other. slice_cmp nat_cmp text other.items)) texts ≡ list_any (is_at (slice_cmp nat_cmp text)) (map (λ text. text.items) texts)

@@ -7,9 +7,10 @@ use Rattle.trac_devices.specs.Devices.{Stream}
 use Rattle.trac_core.specs.Machine.{MachineState, Moment, moment, Answers, GoesOn, fresh_machine}
 use Rattle.trac_core.proofs.Moments.{OnCourse, course-none, course-more}
 use Rattle.trac_core.proofs.Reported.{course_to, report_of, reported, reports-made}
+use Rattle.trac_views.specs.CallLines.{is_fault}
 use Rattle.trac_warnings.specs.Watched.{IsFresh, KeepsRun, said}
 use Rattle.trac_warnings.specs.declared.watch.Watch.{Watch}
-use Rattle.trac_checker.specs.FoundSoFar.{FoundSoFar, found_in_script, with_all, with_names}
+use Rattle.trac_checker.specs.FoundSoFar.{FoundSoFar, found_in_script, with_all, with_fault, with_names}
 use Rattle.trac_checker.specs.Warned.{names_of}
 use Rattle.trac_checker.specs.WatchedRuns.{WatchedSoFar, Watches, WatchesRun, WatchesSteps, not_begun}
 
@@ -57,7 +58,7 @@ module _ {A : Type 0} (input : Text) (start : MachineState) (bytes : Stream) (ol
       }
 
 -- the step with which the run is over
-pub watched-over : {A : Type 0} (input : Text) (room allowance : ℕ) (bytes : Stream) (old new : Moment) (watch judged kept : Watch A) (found more whole : FoundSoFar) (fate : Fate) (report : Report) → old.machine.room ≡ room → old.machine.allowance ≡ allowance → IsWatched input (fresh_machine room allowance) bytes old watch found → Watches input old.machine new.machine watch judged → KeepsRun judged kept → more ≡ with_all (reverse (map said judged.warnings.items)) found → whole ≡ with_names input more → Answers old (Some fate) new → report ≡ report_of fate new.machine → WatchesRun A input room allowance bytes new.source (names_of kept.names.items) whole.counts report
+pub watched-over : {A : Type 0} (input : Text) (room allowance : ℕ) (bytes : Stream) (old new : Moment) (watch judged kept : Watch A) (found more whole : FoundSoFar) (fate : Fate) (report : Report) → old.machine.room ≡ room → old.machine.allowance ≡ allowance → IsWatched input (fresh_machine room allowance) bytes old watch found → Watches input old.machine new.machine watch judged → KeepsRun judged kept → more ≡ with_all (reverse (map said judged.warnings.items)) found → whole ≡ with_names input (with_fault (is_fault fate) input kept more) → Answers old (Some fate) new → report ≡ report_of fate new.machine → WatchesRun A input room allowance bytes new.source (names_of kept.names.items) whole.counts report
 watched-over {A} input room allowance bytes old new watch judged kept found more whole fate report room_is allowance_is so watches keeps finds whole_is answers report_is =
     let start = fresh_machine room allowance in
     subst (WatchesRun A input room allowance bytes new.source (names_of kept.names.items) whole.counts) (sym report_is) (record {

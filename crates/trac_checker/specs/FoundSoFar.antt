@@ -7,6 +7,7 @@ use Rattle.std.specs.Map.{lookup}
 use Rattle.std.specs.Ordering.{nat_cmp, on, then_cmp}
 use Rattle.std.specs.declared.cmp.Ordering.{Ordering}
 use Rattle.trac_language.specs.Text.{Text}
+use Rattle.trac_warnings.specs.Ended.{fault_warnings}
 use Rattle.trac_warnings.specs.Findings.{is_noted, is_of_form, once_more, texts_of, with_text}
 use Rattle.trac_warnings.specs.Misspelled.{misspelled_warnings}
 use Rattle.trac_warnings.specs.Script.{script_warnings}
@@ -14,6 +15,7 @@ use Rattle.trac_warnings.specs.Watched.{Said}
 use Rattle.trac_warnings.specs.contracts.origin.OriginOrd.TheImpl as origin
 use Rattle.trac_warnings.specs.contracts.warning.SuspicionOrd.TheImpl as suspicion
 use Rattle.trac_warnings.specs.declared.findings.Findings.{Findings}
+use Rattle.trac_warnings.specs.declared.watch.Watch.{Watch}
 use Rattle.trac_checker.specs.Warned.{Found, found_of}
 
 -- the order of what warnings say: by their places, then by what is suspicious, then by the number of characters
@@ -66,6 +68,11 @@ found_in_script script = with_all (script_warnings script) nothing_found
 -- call had that was performed
 abbrev pub with_names : Text → FoundSoFar → FoundSoFar
 with_names script old = with_all (misspelled_warnings script) old
+
+-- what was found in a run, with what is told of the fault that ended it, if one did; `watch` saw the whole run
+abbrev pub with_fault : {A : Type 0} → (is_fault : Bool) → Text → Watch A → FoundSoFar → FoundSoFar
+with_fault true script watch old = with_all (fault_warnings script watch) old
+with_fault false script watch old = old
 
 -- what was found, as `findings` holds it
 abbrev pub found_in : {A : Type 0} → Findings A → FoundSoFar

@@ -1,13 +1,17 @@
 -- The lines of warnings.
 use Rattle.std.specs.Prelude.{ℕ, ◌+◌, ◌^◌, ◌-◌, ◌==◌, List, [], ◌++◌, Option, Some, None, codes}
-use Rattle.std.specs.Prelude.{Bool, decimal, map, min, slice_get, take}
+use Rattle.std.specs.Prelude.{Bool, decimal, filter, map, min, not, slice_get, take, ◌∷◌}
 use Rattle.std.specs.List.{flat_map}
 use Rattle.std.specs.declared.vec.Vec.{Vec}
 use Rattle.std.specs.Prelude.{nat_lt, if◌then◌else◌}
 use Rattle.trac_events.specs.declared.place.Place.{Place}
 use Rattle.trac_events.specs.Places.{behind_text, first_place}
 use Rattle.trac_warnings.specs.declared.origin.Origin.{Origin}
+use Rattle.trac_warnings.specs.declared.causes.Causes.{Causes}
+use Rattle.trac_warnings.specs.declared.warning.Suspicion.{Suspicion}
+use Rattle.trac_warnings.specs.declared.warning.Suspicion.TheVariants.{EndedCalling}
 use Rattle.trac_warnings.specs.declared.warning.Warning.{Warning}
+use Rattle.trac_warnings.specs.Explained.{is_explained, no_cause, with_cause}
 use Rattle.trac_warnings.specs.Suspicions.{sentence_of}
 use Rattle.trac_warnings.specs.Watched.{Said, said}
 use Rattle.trac_language.specs.Text.{Text}
@@ -31,18 +35,23 @@ value_in (Some number) column form = column_of_value column form
 abbrev pub value_text : Origin → List ℕ → List ℕ
 value_text origin form = value_in origin.form origin.column form
 
--- the number of characters that a warning counts; null where it counts none
-abbrev pub count_text : ℕ → List ℕ
-count_text count = if count == 0 then [] else decimal count
+-- the words of a number, by what it counts: calls of a form, or characters
+abbrev pub number_text : Suspicion → ℕ → List ℕ
+number_text EndedCalling count = codes " was called " ++ decimal count ++ codes " times"
+number_text _ count = decimal count
+
+-- the words of the number of what a warning counts; null where it counts nothing
+abbrev pub count_text : Suspicion → ℕ → List ℕ
+count_text suspicion count = if count == 0 then [] else number_text suspicion count
 
 -- how often a warning was given; null where that was once
 abbrev pub times_text : ℕ → List ℕ
 times_text times =
     if nat_lt times 2 then [] else (codes " (" ++ decimal times ++ codes " times)")
 
--- the words of a warning: the sentence, the name or the text, and the number of characters
+-- the words of a warning: the sentence, the name or the text, and the number of what it counts
 abbrev pub said_text : Said → List ℕ
-said_text s = sentence_of s.suspicion ++ shown_text s.text ++ count_text s.count
+said_text s = sentence_of s.suspicion ++ shown_text s.text ++ count_text s.suspicion s.count
 
 -- the line of a warning
 abbrev pub warning_text : Said → Place → List ℕ → ℕ → List ℕ
@@ -91,7 +100,20 @@ summary_text name count report =
 abbrev pub Found : Type 0
 Found = List (Said × ℕ)
 
+-- the causes with those of which something was found
+abbrev pub causes_with : Causes → Found → Causes
+causes_with causes [] = causes
+causes_with causes (f ∷ found) = causes_with (with_cause f.0.suspicion causes) found
+
+-- what is told of what was found: all but what another warning explains
+abbrev pub told_by : Causes → Found → Found
+told_by causes found = filter (λ f. not (is_explained causes f.0)) found
+
+-- what is told of what was found, at most one line for one cause
+abbrev pub told_of : Found → Found
+told_of found = told_by (causes_with no_cause found) found
+
 -- the lines on what was found in `script`, with the `names` of its forms, and the line on a fault, if there was one
 abbrev pub lines_of : Text → List Text → Found → Report → Text
 lines_of script names found report =
-    flat_map (warning_line [] script names) found ++ fault_end (is_fault report.fate) report
+    flat_map (warning_line [] script names) (told_of found) ++ fault_end (is_fault report.fate) report

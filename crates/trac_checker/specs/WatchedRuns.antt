@@ -7,11 +7,14 @@ use Rattle.trac_devices.specs.Devices.{Stream}
 use Rattle.trac_core.specs.Machine.{MachineState, Moment, moment, GoesOn, Answers, Reports, course, fresh_machine}
 use Rattle.trac_events.specs.Calls.{IsSeen}
 use Rattle.trac_events.specs.declared.before.Before.{Before}
+use Rattle.trac_views.specs.CallLines.{is_fault}
+use Rattle.trac_warnings.specs.Counted.{counts_behind, counts_of}
 use Rattle.trac_warnings.specs.Looked.{Looks}
 use Rattle.trac_warnings.specs.StepWarnings.{JudgesStep}
 use Rattle.trac_warnings.specs.Watched.{IsFresh, Kept, KeepsPlaces, KeepsRun, Moves, Reads, Stays, said}
 use Rattle.trac_warnings.specs.declared.watch.Watch.{Watch}
-use Rattle.trac_checker.specs.FoundSoFar.{FoundSoFar, found_in_script, with_all, with_names}
+use Rattle.trac_checker.specs.FoundSoFar.{FoundSoFar, found_in_script, with_all, with_fault}
+use Rattle.trac_checker.specs.FoundSoFar.{with_names}
 use Rattle.trac_checker.specs.Warned.{Found, names_of}
 
 -- a watch looked at a machine before a step, and told of the machine after it; `A` is where its lists are
@@ -28,6 +31,8 @@ pub record Watches
   pub moves : new.steps ≢ before.done → Moves before new looked judged
   pub reads : new.steps ≢ before.done → Reads before new input looked.read judged.read
   pub tells : new.steps ≢ before.done → JudgesStep before new input looked judged
+  pub counted : new.steps ≢ before.done →
+      counts_of judged.written.entries ≡ counts_behind before.rule looked
 
 -- how far a run that is watched has come: its machine, with all that it printed; what the watch keeps; and what
 -- was found
@@ -65,7 +70,7 @@ not_begun input start watch = record { at = start; watch = watch; found = found_
 
 -- the definition's run in `room` cells and with at most `allowance` steps, over a source with the bytes `old`, was
 -- watched: `input` is the script whose places are told, `names` are those of the forms that were defined, and `found`
--- is what was found, in the run, in how the script is written, and in the names of its calls
+-- is what was found, in the run and its end, in how the script is written, and in the names of its calls
 pub record WatchesRun
     (A : Type 0) (input : Text) (room allowance : ℕ) (old new : Stream) (names : List Text) (found : Found)
     (report : Report)
@@ -82,4 +87,5 @@ pub record WatchesRun
   pub peak : report.peak ≡ after.at.machine.peak
   pub reports : Reports report.fate (course (fresh_machine room allowance) old [] new after.at.written) report
   pub names_are : names ≡ names_of after.watch.names.items
-  pub found_is : found ≡ (with_names input after.found).counts
+  pub found_is :
+      found ≡ (with_names input (with_fault (is_fault report.fate) input after.watch after.found)).counts

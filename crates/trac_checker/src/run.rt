@@ -4,19 +4,20 @@ ghost use Rattle.std.specs.List.{flat_map};
 ghost use Rattle.trac_core.specs.Machine.{reported_input_failures};
 ghost use Rattle.trac_events.specs.Places.{behind_text, first_place};
 ghost use Rattle.trac_views.specs.CallLines.{is_fault};
-ghost use Rattle.trac_checker.specs.Warned.{fault_end, form_named, found_of, names_of, summary_text};
-ghost use Rattle.trac_checker.specs.Warned.{warning_line, warning_text};
-ghost use Rattle.trac_checker.specs.FoundSoFar.{found_in, found_in_script, with_all, with_names};
+ghost use Rattle.trac_checker.specs.Warned.{causes_with, fault_end, form_named, found_of, names_of};
+ghost use Rattle.trac_checker.specs.Warned.{summary_text, told_of, warning_line, warning_text};
+ghost use Rattle.trac_warnings.specs.Explained.{no_cause};
+ghost use Rattle.trac_checker.specs.FoundSoFar.{found_in, found_in_script, with_all, with_fault, with_names};
 ghost use Rattle.trac_checker.specs.WatchedRuns.{WatchesRun};
 ghost use Rattle.trac_warnings.specs.Watched.{KeepsRun, said};
 
 use crate::lines::push_warning;
 use crate::null_sink::NullSink;
 use std::alloc::{AllocError, Allocator};
-use trac_core::{Cell, Machine, Report, Source};
+use trac_core::{Cell, Fate, Machine, Report, Source};
 use trac_events::Place;
 use trac_views::{is_fault, push, push_end, push_number};
-use trac_warnings::{Findings, Warning, Watch, look_at_names, look_at_script};
+use trac_warnings::{Causes, Findings, Warning, Watch, look_at_names, look_at_script};
 
 /// A run that was watched, and what was found.
 #[derive(Drop)]
@@ -57,6 +58,7 @@ pub fn watched<A: Allocator + Copy, I: Source>(
         watch.judge_step(&before, &machine, input)?;
         keep_warnings(&mut watch, &mut findings)?;
         if let Some(fate) = fate {
+            add_fault(&mut findings, alloc, &watch, fate, input)?;
             add_names(&mut findings, alloc, input)?;
             let report = Report {
                 fate,
@@ -81,6 +83,25 @@ fn of_script<A: Allocator + Copy>(alloc: A, input: &[u8]) -> Result<Findings<A>,
     look_at_script(&mut warnings, alloc, input)?;
     add_all(&mut findings, warnings)?;
     Ok(findings)
+}
+
+// Adds what is told of the fault that ended a run, if this fate is a fault. `watch` saw the whole run.
+fn add_fault<A: Allocator + Copy>(
+    findings: &mut Findings<A>,
+    alloc: A,
+    watch: &Watch<A>,
+    fate: Fate,
+    input: &[u8],
+) -> Result<(), AllocError>
+    ensures { OnOk result (found_in findings.new ≡
+        with_fault (is_fault fate) input.now watch.now (found_in findings.old)) }
+{
+    if !is_fault(fate) {
+        return Ok(());
+    }
+    let mut warnings = Vec::new(alloc);
+    watch.tell_fault(&mut warnings, input)?;
+    add_all(findings, warnings)
 }
 
 // Adds the names in a script that are nearly those of functions, and that no call had that was performed.
@@ -126,15 +147,22 @@ fn keep_warnings<A: Allocator + Copy>(
 }
 
 impl<A: Allocator + Copy> WatchedRun<A> {
-    /// How many warnings there are, each counted once.
+    /// How many warnings are told, each counted once.
     pub fn len(&self) -> usize
-        ensures { result ≡ length self.now.findings.counts.entries }
+        ensures { result ≡ length (told_of (found_of self.now.findings.counts.entries)) }
     {
-        self.findings.len()
+        let causes = causes_of(&self.findings);
+        let mut count: usize = 0;
+        for (warning, _) in self.findings.counts() {
+            if !causes.explain(warning) {
+                count += 1;
+            }
+        }
+        count
     }
 
     /// Adds a line for each warning, which begins with `head`, in the order of their places in `input`, the whole
-    /// input. Fails only if memory runs out.
+    /// input; but no line for a warning that another one explains. Fails only if memory runs out.
     pub fn push_warnings(
         &self,
         lines: &mut Vec<u8, A>,
@@ -142,14 +170,18 @@ impl<A: Allocator + Copy> WatchedRun<A> {
         input: &[u8],
     ) -> Result<(), AllocError>
         ensures { let names = names_of self.now.watch.names.items in OnOk result (lines.new.items ≡ lines.old.items
-            ++ flat_map (warning_line head.now input.now names) (found_of self.now.findings.counts.entries)) }
+            ++ flat_map (warning_line head.now input.now names)
+            (told_of (found_of self.now.findings.counts.entries))) }
     {
+        let causes = causes_of(&self.findings);
         let mut read: usize = 0;
         let mut place = Place::first();
         for (warning, times) in self.findings.counts() {
             place = place_behind(input, read, place, warning.origin.offset);
             read = warning.origin.offset;
-            self.push_line(lines, head, warning, place, *times)?;
+            if !causes.explain(warning) {
+                self.push_line(lines, head, warning, place, *times)?;
+            }
         }
         Ok(())
     }
@@ -198,14 +230,26 @@ impl<A: Allocator + Copy> WatchedRun<A> {
     /// Fails only if memory runs out.
     pub fn push_summary(&self, lines: &mut Vec<u8, A>, name: &[u8]) -> Result<(), AllocError>
         ensures { OnOk result (lines.new.items ≡ lines.old.items
-            ++ summary_text name.now (length self.now.findings.counts.entries) self.now.report) }
+            ++ summary_text name.now (length (told_of (found_of self.now.findings.counts.entries)))
+            self.now.report) }
     {
         push(lines, name)?;
         push(lines, b": warnings ")?;
-        push_number(lines, self.findings.len() as u64)?;
+        push_number(lines, self.len() as u64)?;
         push(lines, b"; ")?;
         push_end(lines, &self.report)
     }
+}
+
+// Which kinds of warnings were found that explain others.
+fn causes_of<A: Allocator + Copy>(findings: &Findings<A>) -> Causes
+    ensures { result ≡ causes_with no_cause (found_of findings.now.counts.entries) }
+{
+    let mut causes = Causes::none();
+    for (warning, _) in findings.counts() {
+        causes = causes.with(warning.suspicion);
+    }
+    causes
 }
 
 // The place behind the first `offset` bytes of the input. `place` is that behind the first `read`, which aren't

@@ -1,3 +1,4 @@
+pub mod Counting
 pub mod Grown
 pub mod Keeping
 pub mod NextNames
@@ -5,3 +6,4 @@ pub mod Noted
 pub mod Said
 pub mod Searched
 pub mod Looked
+pub mod Seen

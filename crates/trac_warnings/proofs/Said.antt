@@ -15,7 +15,7 @@ use Rattle.trac_warnings.specs.StepWarnings.{end_warnings, ended, is_dropped_las
 use Rattle.trac_warnings.specs.declared.watch.OpenString.{OpenString}
 use Rattle.trac_warnings.specs.Watched.{Said}
 use Rattle.trac_warnings.specs.declared.origin.Origin.{Origin}
-use Rattle.trac_warnings.specs.declared.warning.Suspicion.TheVariants.{OpenCall}
+use Rattle.trac_warnings.specs.declared.warning.Suspicion.{Suspicion}
 use Rattle.trac_warnings.specs.declared.performed.Ending.{Ending}
 
 pub head_of : {A : Type 0} (xs : List A) (k : ℕ) (d : A) → k < length xs → drop k xs ≡ get_or xs k d ∷ drop (k + 1) xs
@@ -71,12 +71,12 @@ next_gaps old new whole k next i d cells items ending less added is all =
     ∙ added_first old new (gap_behind cell k items ending) others whole added here
 
 -- the warning of one more open call was added, and the warnings of the calls behind it are left
-pub next_open : (old new whole : List Said) (k : ℕ) (d : Origin) (calls : List Origin) → k < length calls
-    → new ≡ old ++ of_text OpenCall (get_or calls k d) [] ∷ [] → old ++ open_warnings (drop k calls) ≡ whole
-    → new ++ open_warnings (drop (k + 1) calls) ≡ whole
-next_open old new whole k d calls less added all =
-    added_first old new (of_text OpenCall (get_or calls k d) [] ∷ []) (open_warnings (drop (k + 1) calls)) whole added
-    (ap (λ t. old ++ open_warnings t) (sym (head_of calls k d less)) ∙ all)
+pub next_open : (suspicion : Suspicion) (old new whole : List Said) (k : ℕ) (d : Origin) (calls : List Origin) → k < length calls
+    → new ≡ old ++ of_text suspicion (get_or calls k d) [] ∷ [] → old ++ open_warnings suspicion (drop k calls) ≡ whole
+    → new ++ open_warnings suspicion (drop (k + 1) calls) ≡ whole
+next_open suspicion old new whole k d calls less added all =
+    added_first old new (of_text suspicion (get_or calls k d) [] ∷ []) (open_warnings suspicion (drop (k + 1) calls)) whole added
+    (ap (λ t. old ++ open_warnings suspicion t) (sym (head_of calls k d less)) ∙ all)
 
 last_first : {A : Type 0} (xs ys : List A) (x : A) → xs ≡ ys ++ x ∷ [] → reverse xs ≡ x ∷ reverse ys
 last_first xs ys x is = ap reverse is ∙ reverse-append ys (x ∷ [])

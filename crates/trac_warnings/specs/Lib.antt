@@ -1,6 +1,9 @@
 pub mod Suspicions
 pub mod Findings
 pub mod Blanks
+pub mod Counted
+pub mod Ended
+pub mod Explained
 pub mod Gaps
 pub mod Letters
 pub mod Operands

@@ -3,6 +3,7 @@ use Rattle.std.specs.Prelude.{◌≡◌, ℕ, ◌-◌, ◌==◌, ◌&&◌, ◌||
 use Rattle.std.specs.Prelude.{length, map, take, drop, reverse, slice_get, Option, None, Some, unwrap_or}
 use Rattle.std.specs.Prelude.{nat_le, nat_lt, if◌then◌else◌}
 use Rattle.std.specs.Bool.{nat_eq}
+use Rattle.std.specs.Char.{is_ascii_alphabetic}
 use Rattle.std.specs.Option.{option_eq}
 use Rattle.trac_language.specs.declared.function.Function.{Function}
 use Rattle.trac_language.specs.declared.function.Function.TheVariants.{Arithmetic}
@@ -108,6 +109,21 @@ strings_behind _ watch = reverse watch.strings.items
 abbrev pub is_ended_at : List ℕ → (end meta : ℕ) → Bool
 is_ended_at input end meta = option_eq nat_eq (slice_get input end) (Some meta)
 
+-- whether a byte is a letter
+abbrev pub is_letter_byte : Option ℕ → Bool
+is_letter_byte None = false
+is_letter_byte (Some byte) = is_ascii_alphabetic byte
+
+-- whether a letter stands at a place of the input
+abbrev pub is_letter_at : List ℕ → ℕ → Bool
+is_letter_at input place = is_letter_byte (slice_get input place)
+
+-- whether a string ends at a place of the input by a meta character that stands between two letters: one that seems to
+-- belong to a text
+abbrev pub ends_in_word : List ℕ → (end meta : ℕ) → Bool
+ends_in_word input end meta =
+    is_ended_at input end meta && (is_letter_at input (end - 1) && is_letter_at input (more end 1))
+
 -- where the first character that is no layout stands between two places of the input
 abbrev pub begin_of_text : List ℕ → (start end : ℕ) → ℕ
 begin_of_text input start end = more start (layout_len (take (end - start) (drop start input)))
@@ -142,7 +158,7 @@ with_string before input end active depth strings =
     if nat_lt (before.active - 1) active
     then record {
       end = end;
-      is_ended = is_ended_at input end before.meta;
+      is_in_word = ends_in_word input end before.meta;
       rest = before.active - 1;
       depth = depth;
     } ∷ strings
@@ -170,15 +186,15 @@ is_dropped (Some said) = tells_dropped said.suspicion
 abbrev pub is_dropped_last : List Said → Bool
 is_dropped_last reported = is_dropped (slice_get reported (length reported - 1))
 
--- the warnings of calls that are still open
-abbrev pub open_warnings : List Origin → List Said
-open_warnings [] = []
-open_warnings (call ∷ calls) = of_text OpenCall call [] ∷ open_warnings calls
+-- the warnings of open calls
+abbrev pub open_warnings : Suspicion → List Origin → List Said
+open_warnings suspicion [] = []
+open_warnings suspicion (call ∷ calls) = of_text suspicion call [] ∷ open_warnings suspicion calls
 
 -- the warnings of the left parentheses and of the calls that a string leaves open at its end, which is at `here`
 abbrev pub left_open : (is_unmatched is_reported : Bool) → Origin → List Origin → List Said
 left_open true is_reported here calls = where_so (not is_reported) Protection here []
-left_open false is_reported here calls = open_warnings calls
+left_open false is_reported here calls = open_warnings OpenCall calls
 
 -- the warnings of the end of a string, by whether a left parenthesis has no match in it and whether that was
 -- told as characters that were dropped
@@ -186,7 +202,7 @@ abbrev pub end_warnings :
     (is_unmatched is_reported : Bool) → Origin → List Origin → OpenString → List Said
 end_warnings is_unmatched is_reported here calls string =
     left_open is_unmatched is_reported here (drop string.depth calls)
-    ++ where_so (string.is_ended && (is_unmatched || nat_lt string.depth (length calls)))
+    ++ where_so (string.is_in_word && (is_unmatched || nat_lt string.depth (length calls)))
     EndInside (in_input string.end) []
 
 -- what was `reported`, with the warnings of the strings, the last first, that end while `active` cells are left in

@@ -19,6 +19,7 @@ use Rattle.trac_warnings.specs.declared.warning.Suspicion.TheVariants.{GapInName
 use Rattle.trac_warnings.specs.declared.warning.Suspicion.TheVariants.{InOtherLetters, GapInWord, NoCall, Misspelled}
 use Rattle.trac_warnings.specs.declared.warning.Suspicion.TheVariants.{OpenCall, Protection, Dropped, EndInside}
 use Rattle.trac_warnings.specs.declared.warning.Suspicion.TheVariants.{OpenString, CurlyEnd}
+use Rattle.trac_warnings.specs.declared.warning.Suspicion.TheVariants.{RunEnded, EndedCalling, OpenAtEnd}
 
 -- the sentence on a suspicion, before the name, the text or the number
 abbrev pub sentence_of : Suspicion → Text
@@ -70,6 +71,9 @@ sentence_of Dropped = codes "a left parenthesis has no match; characters dropped
 sentence_of EndInside = codes "the meta character ends the string inside parentheses"
 sentence_of OpenString = codes "no meta character ends the string"
 sentence_of CurlyEnd = codes "a typographic apostrophe ends no string; write ' for it"
+sentence_of RunEnded = codes "the run ended here"
+sentence_of EndedCalling = codes "the run ended here; the form "
+sentence_of OpenAtEnd = codes "this call was open when the run ended"
 
 -- whether a suspicion is on how a script is written
 abbrev pub is_on_writing : Suspicion → Bool

@@ -18,6 +18,7 @@ use Rattle.trac_warnings.specs.declared.watch.Watch.{Watch}
 abbrev pub IsFresh : {A : Type 0} → Watch A → Type 0
 IsFresh watch = (watch.warnings.items ≡ []) × (watch.read ≡ 0) × (watch.runs.items ≡ [])
     × (watch.strings.items ≡ []) × (watch.calls.items ≡ []) × (watch.commas.items ≡ [])
+    × (watch.written.entries ≡ [])
 
 -- what a warning says
 pub record Said : Type 0 where
@@ -40,7 +41,7 @@ Kept {A} old new = (more : List (Warning A)) × (new ≡ old ++ more)
 -- a step that was not done leaves no warning, and all places as they were
 abbrev pub Stays : {A : Type 0} → Watch A → Watch A → Type 0
 Stays old new = (new.warnings.items ≡ []) × (new.runs.items ≡ old.runs.items) × (new.read ≡ old.read)
-    × (new.calls.items ≡ old.calls.items)
+    × (new.calls.items ≡ old.calls.items) × (new.written ≡ old.written)
 
 -- what was seen of the run before stays: what it read, what it scans, and which forms it defined
 abbrev pub KeepsPlaces : {A : Type 0} → Watch A → Watch A → Type 0

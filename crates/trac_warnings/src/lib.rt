@@ -6,6 +6,7 @@
 mod arguments;
 mod blanks;
 mod bodies;
+mod causes;
 mod findings;
 mod gaps;
 mod inside;
@@ -24,6 +25,7 @@ mod warning;
 mod watch;
 mod written;
 
+pub use causes::Causes;
 pub use findings::Findings;
 pub use misspelled::look_at_names;
 pub use origin::Origin;

@@ -88,13 +88,18 @@ pub enum Suspicion {
     Protection,
     /// A left parenthesis that has no match at all, so that all behind it is dropped.
     Dropped,
-    /// The meta character that ends a string inside parentheses: one that belongs to a text, or a
-    /// parenthesis is missing before it.
+    /// The meta character between two letters that ends a string inside parentheses: it seems to belong to a text.
     EndInside,
     /// A string at the end of the input that no meta character ends.
     OpenString,
     /// A typographic apostrophe at the end of the input, behind which no meta character ends the string.
     CurlyEnd,
+    /// The character at which a fault ended the run.
+    RunEnded,
+    /// The character at which a fault ended the run, where one form was called often before.
+    EndedCalling,
+    /// A call that was open when a fault ended the run.
+    OpenAtEnd,
 }
 
 /// A warning. Warnings are in the order of their places.
@@ -131,7 +136,10 @@ impl Suspicion {
             Suspicion::Dropped => b"a left parenthesis has no match; characters dropped: ",
             Suspicion::EndInside => b"the meta character ends the string inside parentheses",
             Suspicion::OpenString => b"no meta character ends the string",
-            _ => b"a typographic apostrophe ends no string; write ' for it",
+            Suspicion::CurlyEnd => b"a typographic apostrophe ends no string; write ' for it",
+            Suspicion::RunEnded => b"the run ended here",
+            Suspicion::EndedCalling => b"the run ended here; the form ",
+            _ => b"this call was open when the run ended",
         }
     }
 

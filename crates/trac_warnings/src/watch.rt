@@ -2,6 +2,7 @@
 ghost use Rattle.std.specs.Prelude.{◌≡◌, ◌≢◌, ◌<◌, ◌↔◌, ◌++◌, [], IfOk, OnOk, IsSome, false};
 ghost use Rattle.std.specs.Prelude.{length, option_to_list, reverse};
 ghost use Rattle.trac_events.specs.Calls.{IsSeen};
+ghost use Rattle.trac_warnings.specs.Counted.{counts_behind, counts_of};
 ghost use Rattle.trac_warnings.specs.Looked.{Looks};
 ghost use Rattle.trac_warnings.specs.Origins.{in_input, moved};
 ghost use Rattle.trac_warnings.specs.Performed.{Warns};
@@ -21,6 +22,7 @@ use trac_space::Cell;
 
 mod calls;
 mod ends;
+mod faults;
 mod names;
 mod script;
 
@@ -29,8 +31,8 @@ mod script;
 struct OpenString {
     // Where it ends in the input.
     end: usize,
-    // Whether a meta character stands there.
-    is_ended: bool,
+    // Whether a meta character stands there, between two letters: it seems to belong to a text.
+    is_in_word: bool,
     // The cells of the active string that stand behind it.
     rest: usize,
     // How many calls were open when it was read.
@@ -44,6 +46,8 @@ struct DefinitionSite {
     number: usize,
     // Where the body of the form that was defined last was written.
     body: Origin,
+    // How often cl called a form of this name.
+    calls: usize,
 }
 
 /// Finds what is suspicious in a run. Show it the machine before and after each step; its warnings
@@ -146,6 +150,8 @@ impl<A: Allocator + Copy> Watch<A> {
             input.now self.old.read self.new.read) }
         ensures tells { machine.now.steps ≢ before.now.done →
             OnOk result (JudgesStep before.now machine.now input.now self.old self.new) }
+        ensures counted { machine.now.steps ≢ before.now.done → OnOk result
+            (counts_of self.new.written.entries ≡ counts_behind before.now.rule self.old) }
     {
         if machine.steps() == before.done {
             self.warnings.clear();
@@ -173,6 +179,8 @@ impl<A: Allocator + Copy> Watch<A> {
         ensures calls { OnOk result (self.new.calls.items ≡ calls_behind before.now.rule self.old) }
         ensures strings { OnOk result
             (reverse self.new.strings.items ≡ strings_behind before.now.rule self.old) }
+        ensures counts { OnOk result
+            (counts_of self.new.written.entries ≡ counts_behind before.now.rule self.old) }
         ensures runs { self.new.runs.items ≡ self.old.runs.items }
         ensures read { self.new.read ≡ self.old.read }
     {
@@ -197,6 +205,7 @@ impl<A: Allocator + Copy> Watch<A> {
         ensures read { self.new.read ≡ self.old.read }
         ensures calls { self.new.calls.items ≡ [] }
         ensures strings { self.new.strings.items ≡ [] }
+        ensures written { self.new.written ≡ self.old.written }
     {
         self.strings.clear();
         self.calls.clear();

@@ -4,6 +4,7 @@ ghost use Rattle.std.specs.Prelude.{◌≡◌, ◌<◌, ◌&&◌, [], OnOk, true
 ghost use Rattle.std.specs.Prelude.{reverse};
 ghost use Rattle.trac_language.specs.Function.{function_named};
 ghost use Rattle.trac_space.specs.Texts.{text_of_cells};
+ghost use Rattle.trac_warnings.specs.Counted.{counts_behind_call, counts_of};
 ghost use Rattle.trac_warnings.specs.Looked.{Looks, LooksAtEnd, LooksAtMark, around_of, begin_of};
 ghost use Rattle.trac_warnings.specs.Looked.{is_inside, is_stray, place_of, places_of};
 ghost use Rattle.trac_warnings.specs.Looked.{stray_warnings};
@@ -161,6 +162,7 @@ impl<A: Allocator + Copy> Watch<A> {
         ensures calls { OnOk result (self.new.calls.items ≡ without_last self.old.calls.items) }
         ensures strings { OnOk result (reverse self.new.strings.items ≡
             lowered (length (without_last self.old.calls.items)) (reverse self.old.strings.items)) }
+        ensures counts { OnOk result (counts_of self.new.written.entries ≡ counts_behind_call self.old) }
         ensures runs { self.new.runs.items ≡ self.old.runs.items }
         ensures read { self.new.read ≡ self.old.read }
     {
@@ -214,6 +216,7 @@ impl<A: Allocator + Copy> Watch<A> {
         ensures strings { OnOk result (reverse self.new.strings.items ≡
             lowered (length (without_last self.old.calls.items)) (reverse self.old.strings.items)) }
         ensures warnings { self.new.warnings.items ≡ self.old.warnings.items }
+        ensures written { self.new.written ≡ self.old.written }
         ensures runs { self.new.runs.items ≡ self.old.runs.items }
         ensures read { self.new.read ≡ self.old.read }
     {
@@ -246,18 +249,20 @@ impl<A: Allocator + Copy> Watch<A> {
     }
 }
 
-// Warns of calls that are still open.
+// Warns of open calls, of each in the same way.
 #[tactic(auto, using(crate::proofs::Keeping::keeping))]
 pub(super) fn warn_of_open_calls<A: Allocator + Copy>(
     warnings: &mut Vec<Warning<A>, A>,
     alloc: A,
+    suspicion: Suspicion,
     calls: &[Origin],
 ) -> Result<(), AllocError>
     ensures kept { Kept warnings.old.items warnings.new.items }
-    ensures said { OnOk result (Warns warnings.old.items warnings.new.items (open_warnings calls.now)) }
+    ensures said { OnOk result (Warns warnings.old.items warnings.new.items
+        (open_warnings suspicion calls.now)) }
 {
     for call in calls {
-        warn(warnings, alloc, Suspicion::OpenCall, *call, &[])?;
+        warn(warnings, alloc, suspicion, *call, &[])?;
     }
     Ok(())
 }

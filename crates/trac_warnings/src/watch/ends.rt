@@ -3,7 +3,8 @@ ghost use Rattle.std.specs.Prelude.{◌≡◌, ◌<◌, ◌&&◌, [], OnOk, drop
 ghost use Rattle.trac_warnings.specs.Looked.{Looks};
 ghost use Rattle.trac_warnings.specs.Origins.{in_input};
 ghost use Rattle.trac_warnings.specs.Performed.{Warns};
-ghost use Rattle.trac_warnings.specs.StepWarnings.{end_warnings, ended, is_dropped_last, is_ended_at};
+ghost use Rattle.trac_warnings.specs.StepWarnings.{end_warnings, ended, ends_in_word, is_dropped_last};
+ghost use Rattle.trac_warnings.specs.StepWarnings.{is_ended_at, is_letter_at};
 ghost use Rattle.trac_warnings.specs.StepWarnings.{is_protection, left_open, not_ended};
 ghost use Rattle.trac_warnings.specs.Watched.{Kept, KeepsRun, said};
 
@@ -33,6 +34,7 @@ impl<A: Allocator + Copy> Watch<A> {
         ensures runs { self.new.runs.items ≡ self.old.runs.items }
         ensures read { self.new.read ≡ self.old.read }
         ensures calls { self.new.calls.items ≡ self.old.calls.items }
+        ensures written { self.new.written ≡ self.old.written }
     {
         for _ in 0..self.strings.len() {
             let Some(string) = self.strings.pop() else {
@@ -61,7 +63,7 @@ impl<A: Allocator + Copy> Watch<A> {
         ensures stays { KeepsRun self.old self.new }
     {
         self.warn_of_left_open(string.depth, is_unmatched, here)?;
-        if !string.is_ended || !is_unmatched && self.calls.len() <= string.depth {
+        if !string.is_in_word || !is_unmatched && self.calls.len() <= string.depth {
             return Ok(());
         }
         let origin = Origin::in_input(string.end);
@@ -90,7 +92,7 @@ impl<A: Allocator + Copy> Watch<A> {
     {
         if !is_unmatched {
             let open = calls_beyond(&self.calls, depth);
-            return warn_of_open_calls(&mut self.warnings, self.alloc, open);
+            return warn_of_open_calls(&mut self.warnings, self.alloc, Suspicion::OpenCall, open);
         }
         if self.is_dropped() {
             return Ok(());
@@ -128,4 +130,23 @@ pub(super) fn is_ended_at(end: usize, meta: u8, input: &[u8]) -> bool
     ensures { result ≡ is_ended_at input.now end meta }
 {
     input.get(end).copied() == Some(meta)
+}
+
+// Whether a string ends at a place of the input by a meta character that stands between two letters.
+pub(super) fn ends_in_word(end: usize, meta: u8, input: &[u8]) -> bool
+    ensures { result ≡ ends_in_word input.now end meta }
+{
+    is_ended_at(end, meta, input)
+        && is_letter_at(end.saturating_sub(1), input)
+        && is_letter_at(end.saturating_add(1), input)
+}
+
+// Whether a letter stands at a place of the input.
+fn is_letter_at(place: usize, input: &[u8]) -> bool
+    ensures { result ≡ is_letter_at input.now place }
+{
+    match input.get(place) {
+        Some(byte) => byte.is_ascii_alphabetic(),
+        None => false,
+    }
 }

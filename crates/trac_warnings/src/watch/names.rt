@@ -1,7 +1,9 @@
 //! The names of the forms that a run defined, and where a value was written that comes from a form.
-ghost use Rattle.std.specs.Prelude.{◌≡◌, [], true, MatchOption, false, slice_get};
+ghost use Rattle.std.specs.Prelude.{◌≡◌, [], true, MatchOption, OnOk, false, slice_get, unwrap_or};
 ghost use Rattle.trac_language.specs.Function.{function_named};
 ghost use Rattle.trac_events.specs.Calls.{reads};
+ghost use Rattle.trac_warnings.specs.Counted.{calls_of, counts_behind_call, counts_of, with_call};
+ghost use Rattle.trac_warnings.specs.Counted.{with_form};
 ghost use Rattle.trac_warnings.specs.Looked.{places_of};
 ghost use Rattle.trac_warnings.specs.Origins.{in_input};
 ghost use Rattle.trac_warnings.specs.Watched.{KeepsNames};
@@ -87,33 +89,79 @@ impl<A: Allocator + Copy> Watch<A> {
         }
     }
 
-    // Keeps which form a call defined, if it defined one.
+    // Keeps which form a call defined, if it defined one; and counts the call, if it is one of `cl`.
     pub(super) fn keep_form(&mut self) -> Result<(), AllocError>
         ensures stays { KeepsNames self.old self.new }
+        ensures counts { OnOk result (counts_of self.new.written.entries ≡ counts_behind_call self.old) }
     {
         match function_named(argument(&self.arguments, 0)) {
-            Some(Function::DefineString) => self.define(),
+            Some(Function::DefineString) => {
+                let name = characters_of(self.alloc, argument(&self.arguments, 1))?;
+                self.define(name)
+            }
+            Some(Function::CallForm) => {
+                let name = characters_of(self.alloc, argument(&self.arguments, 1))?;
+                self.count_call(name)
+            }
             _ => Ok(()),
         }
     }
 
-    // Keeps where the body of the form was written that was defined.
-    fn define(&mut self) -> Result<(), AllocError>
-        ensures { KeepsNames self.old self.new }
+    // Keeps where the body of a form of this name was written that was defined.
+    fn define(&mut self, name: Vec<u8, A>) -> Result<(), AllocError>
+        ensures stays { KeepsNames self.old self.new }
+        ensures counts { OnOk result
+            (counts_of self.new.written.entries ≡ with_form name.items (counts_of self.old.written.entries)) }
     {
-        let name = characters_of(self.alloc, argument(&self.arguments, 1))?;
         let body = places_of(&self.commas, &self.arguments)
             .get(1)
             .copied()
             .unwrap_or(self.value);
-        let number = match self.written.get(&name) {
-            Some(written) => written.number,
-            None => {
-                self.names.push(name.clone()?)?;
-                self.names.len().saturating_sub(1)
-            }
+        let calls = self.calls_of(&name);
+        let number = self.number_of(&name)?;
+        let written = DefinitionSite {
+            number,
+            body,
+            calls,
         };
-        self.written.insert(name, DefinitionSite { number, body })?;
+        self.written.insert(name, written)?;
+        Ok(())
+    }
+
+    // The number of a name, which is a new one if no form of the name was defined.
+    fn number_of(&mut self, name: &Vec<u8, A>) -> Result<usize, AllocError>
+        ensures { self.new ≡ record self.old { names = self.new.names } }
+    {
+        if let Some(written) = self.written.get(name) {
+            return Ok(written.number);
+        }
+        self.names.push(name.clone()?)?;
+        Ok(self.names.len().saturating_sub(1))
+    }
+
+    // How often forms of this name were called.
+    fn calls_of(&self, name: &Vec<u8, A>) -> usize
+        ensures { result ≡ unwrap_or (calls_of name.now.items (counts_of self.now.written.entries)) 0 }
+    {
+        match self.written.get(name) {
+            Some(written) => written.calls,
+            None => 0,
+        }
+    }
+
+    // Counts a call of a form of this name, if one was defined.
+    fn count_call(&mut self, name: Vec<u8, A>) -> Result<(), AllocError>
+        ensures stays { KeepsNames self.old self.new }
+        ensures counts { OnOk result (counts_of self.new.written.entries ≡
+            with_call (calls_of name.items (counts_of self.old.written.entries)) name.items
+            (counts_of self.old.written.entries)) }
+    {
+        let Some(written) = self.written.get(&name).copied() else {
+            return Ok(());
+        };
+        let calls = written.calls.saturating_add(1);
+        self.written
+            .insert(name, DefinitionSite { calls, ..written })?;
         Ok(())
     }
 }

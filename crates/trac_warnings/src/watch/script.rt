@@ -8,7 +8,7 @@ ghost use Rattle.trac_warnings.specs.StepWarnings.{text_warnings, with_string};
 ghost use Rattle.trac_warnings.specs.Watched.{Adds, EndsText, Kept, KeepsRun, ReadsLen, end_of_text};
 ghost use Rattle.trac_warnings.specs.Watched.{said};
 
-use super::ends::is_ended_at;
+use super::ends::{ends_in_word, is_ended_at};
 use super::{OpenString, Watch};
 use crate::origin::Origin;
 use crate::performed::warn;
@@ -41,6 +41,7 @@ impl<A: Allocator + Copy> Watch<A> {
             self.old.read self.new.read) }
         ensures runs { self.new.runs.items ≡ self.old.runs.items }
         ensures calls { self.new.calls.items ≡ self.old.calls.items }
+        ensures written { self.new.written ≡ self.old.written }
     {
         match before.awaits {
             Awaits::Text => self.warn_of_string(before, value.len(), active, input),
@@ -76,6 +77,7 @@ impl<A: Allocator + Copy> Watch<A> {
         ensures read { self.new.read ≡ self.old.read }
         ensures calls { self.new.calls.items ≡ self.old.calls.items }
         ensures strings { self.new.strings.items ≡ self.old.strings.items }
+        ensures written { self.new.written ≡ self.old.written }
     {
         let active = machine.active();
         match before.rule {
@@ -112,6 +114,7 @@ impl<A: Allocator + Copy> Watch<A> {
             OnOk result (EndsText input.now end before.now.meta self.new.read) }
         ensures runs { self.new.runs.items ≡ self.old.runs.items }
         ensures calls { self.new.calls.items ≡ self.old.calls.items }
+        ensures written { self.new.written ≡ self.old.written }
     {
         let start = self.read.min(input.len());
         let end = start.saturating_add(len).min(input.len());
@@ -158,11 +161,11 @@ impl<A: Allocator + Copy> Watch<A> {
         if active <= rest {
             return Ok(());
         }
-        let is_ended = is_ended_at(end, before.meta, input);
+        let is_in_word = ends_in_word(end, before.meta, input);
         let depth = self.calls.len();
         self.strings.push(OpenString {
             end,
-            is_ended,
+            is_in_word,
             rest,
             depth,
         })?;

@@ -1,7 +1,7 @@
 use Rattle.std.proofs.Common.{◌≡◌, ◌∙◌, ap, arith, length, refl}
 use Rattle.trac_core.specs.Machine.{MachineState, fresh_machine, moment}
 use Rattle.trac_events.proofs.Failures.{last-failures}
-use Rattle.trac_checker.specs.FoundSoFar.{found_in}
+use Rattle.trac_checker.specs.FoundSoFar.{found_in, with_names}
 use Rattle.trac_checker.specs.WatchedRuns.{Watches}
 use Rattle.trac_checker.specs.WrittenBytes.{bytes_of}
 use Rattle.trac_checker.proofs.Watching.{watched-first, watched-more, watched-over}
@@ -42,6 +42,7 @@ returns-in-Some g c =
       moves = judged.moved;
       reads = judged.read;
       tells = judged.tells;
+      counted = told.counted;
     } in
     record {
       input_failed = omega (arith, h.input_failed, failures, i.source_failures);
@@ -53,7 +54,7 @@ returns-in-Some g c =
           (moment next (g.I.Source.stream c.step-fate.new.source) (bytes_of c.step-fate.new.sink.written.value))
           c.loop-findings.watch c.judge_step.new.self c.keep_warnings.new.watch (found_in c.loop-findings.findings) (found_in c.keep_warnings.new.findings) (found_in c.add_names.new.findings) c.in-Some.fate
           (record { fate = c.in-Some.fate; steps = c.steps.result; peak = c.peak.result })
-          i.same_room i.same_allowance (i.watched tells) watches kept.stays kept.found c.in_ok-add_names.ensures
+          i.same_room i.same_allowance (i.watched tells) watches kept.stays kept.found (c.in_ok-add_names.ensures ∙ ap (with_names c.args.input.now) c.in_ok-add_fault.ensures)
           (h.answers i.not_over (i.told tells) tt)
           (λ j. record { fate = c.in-Some.fate; steps = c.steps.ensures j; peak = c.peak.ensures j });
     }
@@ -79,6 +80,7 @@ loop-findings-preserved g c =
       moves = judged.moved;
       reads = judged.read;
       tells = judged.tells;
+      counted = told.counted;
     } in
     record {
       not_over = h.fate;

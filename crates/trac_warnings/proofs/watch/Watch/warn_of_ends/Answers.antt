@@ -16,12 +16,14 @@ loop-preserved g c =
     let runs : c.warn_of_end.new.self.runs.items ≡ c.loop.self.runs.items = ap (λ (w : Watch g.row.A.Denot). w.runs.items) reported.stays in
     let read : c.warn_of_end.new.self.read ≡ c.loop.self.read = ap (λ (w : Watch g.row.A.Denot). w.read) reported.stays in
     let calls : c.warn_of_end.new.self.calls.items ≡ c.loop.self.calls.items = ap (λ (w : Watch g.row.A.Denot). w.calls.items) reported.stays in
+    let written : c.warn_of_end.new.self.written ≡ c.loop.self.written = ap (λ (w : Watch g.row.A.Denot). w.written) reported.stays in
     let left = ap (λ (w : Watch g.row.A.Denot). w.strings.items) reported.stays in
     record {
       runs = runs ∙ i.runs;
       read = read ∙ i.read;
       kept = kept_more _ _ _ i.kept reported.kept;
       calls = calls ∙ i.calls;
+      written = written ∙ i.written;
       len = omega (arith, ap length left, len_popped _ _ c.in-Some.string c.in-Some.ensures.items, i.len);
       strings = ap (λ t. not_ended c.args.active (reverse t)) left ∙ next_not_ended c.args.active _ c.in-Some.string _ _ less c.in-Some.ensures.items i.strings;
       said = ap (λ t. ended c.args.rule c.args.active c.args.here c.args.self.now.calls.items (map said c.warn_of_end.new.self.warnings.items) (reverse t)) left

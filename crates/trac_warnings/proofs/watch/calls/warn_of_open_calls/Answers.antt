@@ -7,5 +7,5 @@ loop-call-preserved g c =
     let i = c.loop-call.invariant in
     record {
       kept = kept_more _ _ _ i.kept c.warn.ensures.kept;
-      said = next_open _ _ _ c.loop-call.call-index _ c.args.calls.now c.loop-call-test.true c.in_ok-warn.ensures.said i.said;
+      said = next_open _ _ _ _ c.loop-call.call-index _ c.args.calls.now c.loop-call-test.true c.in_ok-warn.ensures.said i.said;
     }

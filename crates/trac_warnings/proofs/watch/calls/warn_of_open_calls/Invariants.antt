@@ -8,6 +8,6 @@ abbrev pub invariant-loop-call : goal.invariant-loop-call
 invariant-loop-call g l =
     record {
       kept : Kept l.initial.warnings.items l.warnings.items;
-      said : map said l.warnings.items ++ open_warnings (drop l.call-index l.calls)
-          ≡ map said l.initial.warnings.items ++ open_warnings l.calls;
+      said : map said l.warnings.items ++ open_warnings l.suspicion (drop l.call-index l.calls)
+          ≡ map said l.initial.warnings.items ++ open_warnings l.suspicion l.calls;
     }
