@@ -110,10 +110,10 @@ abbrev pub told_by : Causes → Found → Found
 told_by causes found = filter (λ f. not (is_explained causes f.0)) found
 
 -- what is told of what was found, at most one line for one cause
-abbrev pub told_of : Found → Found
-told_of found = told_by (causes_with no_cause found) found
+abbrev pub unexplained : Found → Found
+unexplained found = told_by (causes_with no_cause found) found
 
 -- the lines on what was found in `script`, with the `names` of its forms, and the line on a fault, if there was one
 abbrev pub lines_of : Text → List Text → Found → Report → Text
 lines_of script names found report =
-    flat_map (warning_line [] script names) (told_of found) ++ fault_end (is_fault report.fate) report
+    flat_map (warning_line [] script names) (unexplained found) ++ fault_end (is_fault report.fate) report

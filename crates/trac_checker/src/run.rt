@@ -5,7 +5,7 @@ ghost use Rattle.trac_core.specs.Machine.{reported_input_failures};
 ghost use Rattle.trac_events.specs.Places.{behind_text, first_place};
 ghost use Rattle.trac_views.specs.CallLines.{is_fault};
 ghost use Rattle.trac_checker.specs.Warned.{causes_with, fault_end, form_named, found_of, names_of};
-ghost use Rattle.trac_checker.specs.Warned.{summary_text, told_of, warning_line, warning_text};
+ghost use Rattle.trac_checker.specs.Warned.{summary_text, unexplained, warning_line, warning_text};
 ghost use Rattle.trac_warnings.specs.Explained.{no_cause};
 ghost use Rattle.trac_checker.specs.FoundSoFar.{found_in, found_in_script, with_all, with_fault, with_names};
 ghost use Rattle.trac_checker.specs.WatchedRuns.{WatchesRun};
@@ -100,7 +100,7 @@ fn add_fault<A: Allocator + Copy>(
         return Ok(());
     }
     let mut warnings = Vec::new(alloc);
-    watch.tell_fault(&mut warnings, input)?;
+    watch.warn_of_fault(&mut warnings, input)?;
     add_all(findings, warnings)
 }
 
@@ -149,7 +149,7 @@ fn keep_warnings<A: Allocator + Copy>(
 impl<A: Allocator + Copy> WatchedRun<A> {
     /// How many warnings are told, each counted once.
     pub fn len(&self) -> usize
-        ensures { result ≡ length (told_of (found_of self.now.findings.counts.entries)) }
+        ensures { result ≡ length (unexplained (found_of self.now.findings.counts.entries)) }
     {
         let causes = causes_of(&self.findings);
         let mut count: usize = 0;
@@ -171,7 +171,7 @@ impl<A: Allocator + Copy> WatchedRun<A> {
     ) -> Result<(), AllocError>
         ensures { let names = names_of self.now.watch.names.items in OnOk result (lines.new.items ≡ lines.old.items
             ++ flat_map (warning_line head.now input.now names)
-            (told_of (found_of self.now.findings.counts.entries))) }
+            (unexplained (found_of self.now.findings.counts.entries))) }
     {
         let causes = causes_of(&self.findings);
         let mut read: usize = 0;
@@ -230,7 +230,7 @@ impl<A: Allocator + Copy> WatchedRun<A> {
     /// Fails only if memory runs out.
     pub fn push_summary(&self, lines: &mut Vec<u8, A>, name: &[u8]) -> Result<(), AllocError>
         ensures { OnOk result (lines.new.items ≡ lines.old.items
-            ++ summary_text name.now (length (told_of (found_of self.now.findings.counts.entries)))
+            ++ summary_text name.now (length (unexplained (found_of self.now.findings.counts.entries)))
             self.now.report) }
     {
         push(lines, name)?;

@@ -5,8 +5,9 @@ ghost use Rattle.std.specs.Char.{is_ascii_digit};
 ghost use Rattle.std.specs.List.{list_all};
 ghost use Rattle.trac_warnings.specs.Operands.{operand_among, suspicion_of_number, suspicion_of_operand};
 ghost use Rattle.trac_warnings.specs.Operands.{adds, are_thousands, behind_digit, is_number, takes_numbers};
-ghost use Rattle.trac_warnings.specs.Performed.{Warns, comma_warnings, compares_texts, differ_by_blanks, has_odd_operand};
-ghost use Rattle.trac_warnings.specs.Performed.{operand_warnings, parts_number, side_warnings, suspicion_of_sides};
+ghost use Rattle.trac_warnings.specs.Performed.{Warns, comma_warnings, compares_texts, differ_by_blanks};
+ghost use Rattle.trac_warnings.specs.Performed.{has_odd_operand, operand_warnings, parts_number, side_warnings};
+ghost use Rattle.trac_warnings.specs.Performed.{suspicion_of_sides};
 ghost use Rattle.trac_warnings.specs.Watched.{Kept};
 
 use crate::blanks::trimmed;
