@@ -14,16 +14,12 @@ abbrev pub behind_parenthesis : Text → Text
 behind_parenthesis [] = []
 behind_parenthesis (c ∷ text) = if c == 40 then text else []
 
--- what stands behind the characters that open a call at the head of a text; null, if they aren't there
-abbrev pub behind_opening : Text → Text
-behind_opening [] = []
-behind_opening (c ∷ text) = if c == 35 then behind_parenthesis (behind_sign text) else []
-
 -- what stands behind the characters that open the first call of a function in a text; null, if none is in it
 abbrev pub behind_call : Text → Text
 behind_call [] = []
 behind_call (c ∷ text) =
-    if names_function 41 (behind_opening (c ∷ text)) then behind_opening (c ∷ text) else behind_call text
+    let behind = behind_parenthesis (behind_sign text) in
+    if (c == 35) && names_function 41 behind then behind else behind_call text
 
 -- whether the last character of a text closes the outermost of so many open parentheses, and none before it does
 abbrev pub closes_at_end : (opened : ℕ) → Text → Bool

@@ -2,7 +2,7 @@
 ghost use Rattle.std.specs.Prelude.{◌≡◌, ◌<◌, ◌≤◌, false, OnOk, length};
 ghost use Rattle.trac_space.specs.Texts.{text_of_cells};
 ghost use Rattle.trac_warnings.specs.Performed.{Warns, changes_meta, meta_change_warnings, print_warnings, prints};
-ghost use Rattle.trac_warnings.specs.Printed.{begins_with_line_end, behind_call, behind_opening, behind_parenthesis};
+ghost use Rattle.trac_warnings.specs.Printed.{begins_with_line_end, behind_call, behind_parenthesis};
 ghost use Rattle.trac_warnings.specs.Printed.{behind_sign, closes_at_end, has_two_at_end};
 ghost use Rattle.trac_warnings.specs.Watched.{Kept};
 
@@ -52,23 +52,15 @@ fn behind_call(text: &[u8]) -> &[u8]
     ensures value { result.now ≡ behind_call text.now }
     ensures long { 0 < length result.now → 2 ≤ length result.now }
 {
-    for (i, _byte) in text.iter().enumerate() {
-        let behind = behind_opening(&text[i..]);
-        if names_function(b')', behind) {
-            return behind;
+    for (i, byte) in text.iter().enumerate() {
+        if *byte == b'#' {
+            let behind = behind_parenthesis(behind_sign(&text[i + 1..]));
+            if names_function(b')', behind) {
+                return behind;
+            }
         }
     }
     &[]
-}
-
-// What stands behind the characters that open a call at the head of a text; null, if they aren't there.
-fn behind_opening(text: &[u8]) -> &[u8]
-    ensures { result.now ≡ behind_opening text.now }
-{
-    match text {
-        [b'#', behind @ ..] => behind_parenthesis(behind_sign(behind)),
-        _ => &[],
-    }
 }
 
 // A text without a number sign at its head, if one is there.
