@@ -4,7 +4,7 @@ use Rattle.std.specs.Prelude.{is_none, is_some, MatchOption}
 use Rattle.trac_laws.specs.LastRead.{end_reads_last}
 use Rattle.std.proofs.lemmas.Bool.{true≢false}
 use Rattle.trac_laws.proofs.Rules.{rule_end}
-use Rattle.trac_functions.proofs.FlatLemmas.{neutral_of-innermost, opened, grown-mode, size-used}
+use Rattle.trac_functions.proofs.FlatLemmas.{arguments-call_at, neutral_of-innermost, opened, grown-mode, size-used}
 use Rattle.trac_core.specs.declared.machine.answering.Delivery.{Delivery}
 use Rattle.trac_core.specs.declared.machine.answering.Delivery.TheVariants.{ByMode, Scanned, Unscanned}
 use Rattle.trac_core.specs.Answering.{Answered, answer_need, answer_of, answered, end_answered, follow_answered, is_forced, mode_by}
@@ -96,7 +96,8 @@ module _ (old w : Contents) (place : ℕ) (p : ClosesCall old w place) where
 
 -- a call of no function is performed
 pub unknown-innermost : (w : Contents) (place meta : ℕ) → slice_get (text_of_cells w.active) 0 ≡ Some 41 → IsLastCall w.neutral place → calls_unknown (memory_of meta w) ≡ is_none (function_at w.neutral place)
-unknown-innermost w place meta first last = ap is_unknown (call-innermost w place meta first last)
+unknown-innermost w place meta first last =
+    ap is_unknown (call-innermost w place meta first last) ∙ rw (arguments-call_at w.neutral place last) refl
 
 -- a function that there is
 pub some-known : {A : Type 0} (o : Option A) → is_some o ≡ true → is_none o ≡ false

@@ -53,23 +53,10 @@ call-in_front cells bound place within mark =
     let below : place < bound = omega (arith, mark.0, length-take-le bound cells within) in
     (below, (omega arith, ap is_call (sym (get_or-take bound cells place (Byte 0) below)) ∙ mark.1))
 
--- a call more is open around a call than around the one around it
-pub calls-around : (cells : List Cell) (place around : ℕ) → place ≤ length cells → IsLastCall (take place cells) around → length (neutral_of (take place cells)).calls ≡ suc (length (neutral_of (take around cells)).calls)
-calls-around cells place around within last =
-    let below : around ≤ place = omega (arith, last.mark.0, length-take-le place cells within) in
-    rw (neutral_of-innermost (take place cells) around last, take-take around place cells below) refl
-
 -- behind the last cell no call has its mark
 pub mode-none : (cells : List Cell) (place : ℕ) → slice_get cells place ≡ None → Active ≡ mode_at cells place
 mode-none cells place none =
     ap mode_of (ap (λ cell. unwrap_or cell (Byte 0)) (sym none) ∙ unwrap_or-slice_get cells place (Byte 0))
-
--- the count of the calls around a mark, gone one call further
-pub counted-around : (cells : List Cell) (mark place around count : ℕ) → place < length cells → IsLastCall (take place cells) around → count + length (neutral_of (take place cells)).calls ≡ length (neutral_of (take mark cells)).calls → count + place ≤ mark → IsCallAt cells around × (count + 1 + length (neutral_of (take around cells)).calls ≡ length (neutral_of (take mark cells)).calls) × (count + 1 + around ≤ mark)
-counted-around cells mark place around count within last is few =
-    let front = call-in_front cells place around (omega (arith, within)) last.mark in
-    let one = calls-around cells place around (omega (arith, within)) last in
-    (front.1, omega (arith, is, one), omega (arith, few, front.0))
 
 -- the call that is wanted, from one call and from the one around it
 pub mark-further : (number inner : ℕ) (cells : List Cell) (place around : ℕ) → inner < number → place < length cells → IsLastCall (take place cells) around → mark_of number (neutral_of cells) ≡ mark_from (number - inner) cells place → IsCallAt cells around × (mark_of number (neutral_of cells) ≡ mark_from (number - (inner + 1)) cells around)

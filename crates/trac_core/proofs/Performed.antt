@@ -1,9 +1,9 @@
 -- The call that a step performs, and its function, by what stands in the active and in the neutral string.
-use Rattle.trac_core.proofs.Imports.{◌≡◌, ◌≢◌, ℕ, Bool, true, false, [], ◌∷◌, List, drop, take, slice_get, Option, Some, None, refl, sym, ap, ◌==◌, if◌then◌else◌, bytes_eq, codes, ne_eqb, Active, Text, protected, OpenCall, DeleteLayout, BeginArgument, BeginCall, EndCall, AddCharacter, is_layout, number_sign_rule, parenthesis_rule, rule, NoCall, IsLastCall, text_of_cells, Contents, IsSound, Memory, arguments, arguments_at, memory_of, neutral_of, length, performed_by, performs, calls_device, needs_device, needs_device_by, function_at, Function}
+use Rattle.trac_core.proofs.Imports.{◌≡◌, ◌≢◌, ℕ, Bool, true, false, [], ◌∷◌, List, drop, take, slice_get, Option, Some, None, refl, sym, ap, ◌==◌, if◌then◌else◌, bytes_eq, codes, ne_eqb, Active, Text, protected, OpenCall, DeleteLayout, BeginArgument, BeginCall, EndCall, AddCharacter, is_layout, number_sign_rule, parenthesis_rule, rule, NoCall, IsLastCall, text_of_cells, Contents, IsSound, Memory, arguments, arguments_at, memory_of, performed_by, performs, calls_device, needs_device, needs_device_by, function_at}
 use Rattle.trac_language.specs.Rule.{Rule}
 use Rattle.trac_language.specs.declared.mode.Mode.TheVariants.{Neutral}
 use Rattle.trac_laws.proofs.Rules.{rule_end}
-use Rattle.trac_functions.proofs.FlatLemmas.{calls-none, neutral_of-innermost, arguments-call_at}
+use Rattle.trac_functions.proofs.FlatLemmas.{call_at, calls-none, neutral_of-innermost, arguments-call_at}
 use Rattle.trac_core.proofs.Performing.{performs-closed, function-performs, needs-call}
 use Rattle.trac_core.specs.OpenCalls.{call_performed_by, performed_call, performed_texts, texts_performed_by}
 use Rattle.trac_core.proofs.Scanning.{first-rest}
@@ -68,14 +68,10 @@ performs-innermost w place meta sound first last =
     let after = record w { active = drop 1 w.active } in
     sym (function-performs w after place meta (performs-closed w after place sound first last refl))
 
--- the call by its parts
-pub call-innermost : (w : Contents) (place meta : ℕ) → slice_get (text_of_cells w.active) 0 ≡ Some 41 → IsLastCall w.neutral place → performed_call (memory_of meta w) ≡ Some (record { function = function_at w.neutral place; arguments = length (drop 1 (arguments_at w.neutral place)); depth = length (neutral_of (take place w.neutral)).calls })
+-- the call that is performed
+pub call-innermost : (w : Contents) (place meta : ℕ) → slice_get (text_of_cells w.active) 0 ≡ Some 41 → IsLastCall w.neutral place → performed_call (memory_of meta w) ≡ Some (call_at w.neutral place)
 call-innermost w place meta first last =
-    rw (first-rest (text_of_cells w.active) 41 first, rule_end (drop 1 (text_of_cells w.active)), neutral_of-innermost w.neutral place last, arguments-call_at w.neutral place last) refl
-
-pub called : (w : Contents) (place meta : ℕ) (function : Option Function) (count depth : ℕ) → slice_get (text_of_cells w.active) 0 ≡ Some 41 → IsLastCall w.neutral place → function ≡ function_at w.neutral place → count ≡ length (drop 1 (arguments_at w.neutral place)) → depth ≡ length (neutral_of (take place w.neutral)).calls → Some (record { function = function; arguments = count; depth = depth }) ≡ performed_call (memory_of meta w)
-called w place meta function count depth first last function_is count_is depth_is =
-    rw (function_is, count_is, depth_is, call-innermost w place meta first last) refl
+    rw (first-rest (text_of_cells w.active) 41 first, rule_end (drop 1 (text_of_cells w.active)), neutral_of-innermost w.neutral place last) refl
 
 -- a step that performs no call performs none with arguments
 no-texts : (r : Rule) (calls : List OpenCall) → call_performed_by r calls ≡ None → texts_performed_by r calls ≡ []

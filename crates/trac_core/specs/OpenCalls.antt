@@ -1,6 +1,6 @@
 -- The calls that are open, where their marks stand in the neutral string, and which of them the next
 -- step performs.
-use Rattle.std.specs.Prelude.{ℕ, zero, suc, ◌+◌, List, [], ◌∷◌, Option, None, Some, drop, length, slice_get, sum_by}
+use Rattle.std.specs.Prelude.{ℕ, zero, suc, ◌+◌, List, [], ◌∷◌, Option, None, Some, length, slice_get, sum_by}
 use Rattle.std.specs.Prelude.{Bool, false, ◌&&◌, ◌==◌, if◌then◌else◌, is_none, nat_lt}
 use Rattle.trac_language.specs.Rule.{Rule, EndCall, rule}
 use Rattle.trac_language.specs.Text.{Text}
@@ -8,7 +8,6 @@ use Rattle.trac_language.specs.State.{Memory, OpenCall as Call, arguments, call_
 use Rattle.trac_language.specs.Step.{function_of}
 use Rattle.trac_functions.specs.Flat.{Neutral}
 use Rattle.trac_core.specs.declared.machine.open_calls.CallMark.{CallMark}
-use Rattle.trac_core.specs.declared.machine.open_calls.NextCall.{NextCall}
 use Rattle.trac_core.specs.Machine.{MachineState}
 
 -- the cells that stand before the mark of a call that is open within the calls `outer`, where the base text
@@ -51,22 +50,18 @@ abbrev pub mark_around : Option ℕ → Neutral → Option ℕ
 mark_around mark n = next_after mark (call_places n)
 
 -- the call among these, innermost first, that a step by the rule performs
-abbrev pub call_performed_by : Rule → List Call → Option NextCall
-call_performed_by (EndCall rest) (call ∷ outer) = Some (record {
-  function = function_of call;
-  arguments = length (drop 1 (arguments call));
-  depth = length outer;
-})
+abbrev pub call_performed_by : Rule → List Call → Option Call
+call_performed_by (EndCall rest) (call ∷ outer) = Some call
 call_performed_by _ calls = None
 
 -- the call that a step performs over this memory
-abbrev pub performed_call : Memory → Option NextCall
+abbrev pub performed_call : Memory → Option Call
 performed_call memory = call_performed_by (rule memory.active) memory.calls
 
 -- whether a call is performed, and its name is no function
-abbrev pub is_unknown : Option NextCall → Bool
+abbrev pub is_unknown : Option Call → Bool
 is_unknown None = false
-is_unknown (Some call) = is_none call.function
+is_unknown (Some call) = is_none (function_of call)
 
 -- whether a step over this memory performs a call whose name is no function
 abbrev pub calls_unknown : Memory → Bool
@@ -95,9 +90,3 @@ performed_texts memory = texts_performed_by (rule memory.active) memory.calls
 abbrev pub next_texts : MachineState → List Text
 next_texts m =
     if is_none m.fate && nat_lt m.steps m.allowance then performed_texts m.memory else []
-
--- the call that the next step performs, if there is a next step: the run is not over, and the
--- allowance not used up
-abbrev pub next_call : MachineState → Option NextCall
-next_call m =
-    if is_none m.fate && nat_lt m.steps m.allowance then performed_call m.memory else None

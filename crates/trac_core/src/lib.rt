@@ -17,7 +17,7 @@ mod scan;
 mod streaming;
 
 pub use display::{display_len, show_form};
-pub use machine::{Awaits, CallMark, Delivery, Machine, NextCall, Progress, Refused};
+pub use machine::{Awaits, CallMark, Delivery, Machine, Progress, Refused};
 pub use rules::ScanningRule;
 pub use runs::is_layout;
 pub use trac_devices::{

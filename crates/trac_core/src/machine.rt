@@ -34,7 +34,7 @@ pub(crate) mod view;
 pub use advancing::Progress;
 pub use answering::Delivery;
 pub use changing::Refused;
-pub use open_calls::{CallMark, NextCall};
+pub use open_calls::CallMark;
 pub use session::Awaits;
 
 /// A processor over a lent block of cells, with an allowance of steps. It takes no other memory.

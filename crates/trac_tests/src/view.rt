@@ -1,7 +1,7 @@
 //! What a machine shows of itself from step to step.
 use std::process::Abort;
 use trac_core::{
-    Cell, Fate, Function, Machine, NextCall, ScanningRule, Sink, SliceSink, SliceSource, Source,
+    Cell, Fate, Function, Machine, ScanningRule, Sink, SliceSink, SliceSource, Source,
 };
 
 /// Of each step of a run over no input its rule, the size before it and its need.
@@ -81,6 +81,39 @@ fn the_two_strings(rt: HostRuntime) {
     assert_eq!(rt; machine.mark_around(Some(1)), None);
 }
 
+/// The call that the next step performs.
+struct NextCall {
+    /// The function that it names.
+    function: Option<Function>,
+    /// How many arguments stand behind its name.
+    arguments: u32,
+    /// How many calls are open around it.
+    depth: u32,
+}
+
+/// The call that the next step performs, if it performs one.
+fn next_call(machine: &Machine) -> Option<NextCall> {
+    let arguments = machine.argument_count().checked_sub(1)?;
+    Some(NextCall {
+        function: machine.next_function(),
+        arguments,
+        depth: calls_around(machine, machine.mark_around(None)),
+    })
+}
+
+/// How many calls are open around the one whose mark stands at a place.
+fn calls_around(machine: &Machine, mut mark: Option<u32>) -> u32 {
+    let mut count: u32 = 0;
+    for _ in machine.neutral() {
+        mark = machine.mark_around(mark);
+        if mark.is_none() {
+            break;
+        }
+        count = count.saturating_add(1);
+    }
+    count
+}
+
 /// Makes steps up to this number of steps since the run began, and gives the call that comes next.
 fn call_after(
     rt: &impl Abort,
@@ -93,7 +126,7 @@ fn call_after(
         assert!(rt; source.failures() == 0 && sink.failures() == 0);
         let _ = machine.step(source, sink);
     }
-    machine.next_call()
+    next_call(machine)
 }
 
 #[test]

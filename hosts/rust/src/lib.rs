@@ -32,7 +32,7 @@ use values as trac_values;
 
 pub use block::{BlockTooLong, MOST_CELLS};
 pub use trac_core::{
-    Awaits, CallMark, Delivery, Machine, NextCall, Progress, Refused, ScanningRule, display_len, is_layout,
+    Awaits, CallMark, Delivery, Machine, Progress, Refused, ScanningRule, display_len, is_layout,
     show_form,
 };
 #[cfg(feature = "std")]

@@ -54,8 +54,10 @@ fn places_past_the_end_have_nothing() {
     assert!(machine.form_named(&[]).is_none() && machine.form_named(&[Cell::Byte(b'A')]).is_some());
     assert_eq!((machine.call_mark(0), machine.call_mark(u32::MAX)), (None, None));
     assert_eq!((machine.mark_around(None), machine.mark_around(Some(u32::MAX))), (None, None));
-    assert!(machine.next_call().is_none());
-    assert_eq!((machine.steps_to_call(u64::MAX), machine.prints(), machine.takes()), (0, 0, 0));
+    let function = machine.next_function();
+    assert!(function.is_none() && machine.argument(0).is_none());
+    assert_eq!((machine.argument_count(), machine.prints_past(function, 0)), (0, None));
+    assert_eq!((machine.steps_to_call(u64::MAX), machine.takes()), (0, 0));
     assert_eq!((machine.steps(), machine.peak(), machine.size()), (0, 0, 5));
 }
 

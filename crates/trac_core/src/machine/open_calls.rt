@@ -1,18 +1,14 @@
-//! The calls that are open in a machine, and the one that its next step performs.
-ghost use Rattle.std.specs.Prelude.{◌≡◌, ℕ, length, slice_index_or, take};
-ghost use Rattle.trac_space.specs.Cells.{IsCallAt, is_call};
+//! The calls that are open in a machine, by their marks.
+ghost use Rattle.std.specs.Prelude.{◌≡◌, slice_index_or};
+ghost use Rattle.trac_space.specs.Cells.{is_call};
 ghost use Rattle.trac_space.specs.declared.cell.Cell.TheVariants.{Byte};
-ghost use Rattle.trac_functions.specs.Calls.{AreArguments, texts};
-ghost use Rattle.trac_functions.specs.Flat.{memory_of, mode_at, neutral_of};
+ghost use Rattle.trac_functions.specs.Flat.{mode_at, neutral_of};
 ghost use Rattle.trac_core.specs.View.{neutral_in};
-ghost use Rattle.trac_core.specs.OpenCalls.{mark_around, mark_of, next_call, performed_call};
-ghost use Rattle.trac_core.specs.StepsInRow.{HasNoCommaFrom};
+ghost use Rattle.trac_core.specs.OpenCalls.{mark_around, mark_of};
 
 use super::Machine;
-use super::closing::{closed_call, named_at};
 use trac_forms::{Cell, Work};
-use trac_functions::arguments::Arguments;
-use trac_language::{Function, Mode};
+use trac_language::Mode;
 
 /// The mark of an open call.
 #[derive(Clone, Copy, Debug, PartialEq, Eq)]
@@ -21,18 +17,6 @@ pub struct CallMark {
     pub mode: Mode,
     /// The place of the mark in the neutral string, in cells from 0.
     pub place: usize,
-}
-
-/// The call that the next step performs.
-#[derive(Clone, Copy)]
-pub struct NextCall {
-    /// The function that the call names. `None` if no function has the name.
-    pub function: Option<Function>,
-    /// How many arguments stand behind the name, null ones counted: one for each comma mark of the
-    /// call, so 0 without a comma. They are counted too where no function has the name.
-    pub arguments: u32,
-    /// How many calls are open around it.
-    pub depth: usize,
 }
 
 impl<'a> Machine<'a> {
@@ -54,53 +38,6 @@ impl<'a> Machine<'a> {
     {
         mark_of(&self.work, number)
     }
-
-    /// The call that the next step performs, for a host that shows or counts calls before they are
-    /// performed. None if that step performs no call: the active string begins with no right
-    /// parenthesis, or no call is open. None too where there is no next step: the run is over, or the
-    /// allowance is used up. A call that the step then refuses, since the cells are too few, is given.
-    /// Looks at the arguments of that call and at the mark of each open call. This processor's own choice.
-    pub fn next_call(&self) -> Option<NextCall>
-        ensures { result ≡ next_call self.now }
-    {
-        if self.fate.is_none() && self.steps < self.allowance {
-            performed_call(&self.work, self.no_comma_from)
-        } else {
-            None
-        }
-    }
-}
-
-/// The call that a step over these contents performs. From place `no_comma_from` on no comma mark stands in
-/// the neutral string.
-fn performed_call(work: &Work, no_comma_from: u32) -> Option<NextCall>
-    requires { HasNoCommaFrom no_comma_from work.now.neutral }
-    ensures { (meta : ℕ) → result ≡ performed_call (memory_of meta work.now) }
-{
-    let Some(place) = closed_call(work) else {
-        return None;
-    };
-    let (function, arguments) = named_at(work, place, no_comma_from);
-    let arguments = arguments_left(work, arguments);
-    let depth = calls_around(work, place);
-    Some(NextCall {
-        function,
-        arguments,
-        depth,
-    })
-}
-
-/// How many arguments are left to take.
-pub(super) fn arguments_left(work: &Work, mut arguments: Arguments) -> u32
-    requires { AreArguments work.now arguments }
-    ensures { result ≡ length (texts work.now arguments) }
-{
-    let mut count = 0;
-    while !arguments.is_empty() {
-        let _ = arguments.next(work);
-        count += 1;
-    }
-    count
 }
 
 /// The place of the mark of the call around the one with this mark, and of the innermost call without a
@@ -162,18 +99,4 @@ fn mode_at(work: &Work, place: u32) -> Mode
         Some(Cell::Call(mode, _)) => mode,
         _ => Mode::Active,
     }
-}
-
-/// How many calls are open around the one whose mark stands at a place.
-fn calls_around(work: &Work, mark: u32) -> usize
-    requires { IsCallAt work.now.neutral mark }
-    ensures { result ≡ length (neutral_of (take mark work.now.neutral)).calls }
-{
-    let mut place = mark;
-    let mut count = 0;
-    while let Some(around) = work.call_before(place) {
-        place = around;
-        count += 1;
-    }
-    count
 }

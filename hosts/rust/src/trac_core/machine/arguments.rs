@@ -3,13 +3,13 @@
 
 use super::Machine;
 use super::closing::{arguments_at, closed_call};
-use super::open_calls::arguments_left;
 use crate::trac_forms::{Cell, Work};
-use crate::trac_functions::arguments::text;
+use crate::trac_functions::arguments::{Arguments, text};
 
 impl<'a> Machine<'a> {
     /// How many arguments the call has that the next step performs, its name counted and null ones too. 0 if that
-    /// step performs no call, as `next_call` says. This processor's own choice.
+    /// step performs no call: the active string begins with no right parenthesis, or no call is open. 0 too where
+    /// there is no next step: the run is over, or the allowance is used up. This processor's own choice.
     pub fn argument_count(&self) -> u32
     {
         if self.fate.is_none() && self.steps < self.allowance {
@@ -20,8 +20,8 @@ impl<'a> Machine<'a> {
     }
 
     /// An argument of the call that the next step performs, a cell for each character. The name is argument 0. None
-    /// where the call has no such argument, and where that step performs no call, as `next_call` says. Looks at the
-    /// arguments up to this one. This processor's own choice.
+    /// where the call has no such argument, and where `argument_count` is 0. Looks at the arguments up to this one.
+    /// This processor's own choice.
     pub fn argument(&self, which: u32) -> Option<&[Cell]>
     {
         if self.fate.is_none() && self.steps < self.allowance {
@@ -60,4 +60,15 @@ fn performed_argument<'w>(work: &'w Work, no_comma_from: u32, which: u32) -> Opt
         return None;
     }
     Some(text(work, arguments.next(work)))
+}
+
+/// How many arguments are left to take.
+fn arguments_left(work: &Work, mut arguments: Arguments) -> u32
+{
+    let mut count = 0;
+    while !arguments.is_empty() {
+        let _ = arguments.next(work);
+        count += 1;
+    }
+    count
 }

@@ -14,22 +14,10 @@ use crate::trac_language::Function;
 use crate::trac_space::Part;
 
 impl<'a> Machine<'a> {
-    /// How many bytes the next step prints: by `ps` or `pf`, whatever the input. 0 if it prints
-    /// nothing, and where the run is over or the allowance is used up. This processor's own choice.
-    pub fn prints(&mut self) -> u32
-    {
-        if self.fate.is_some() {
-            return 0;
-        }
-        if self.steps == self.allowance {
-            return 0;
-        }
-        printed_len(&mut self.work, self.no_comma_from)
-    }
-
-    /// How many bytes the next step prints, as `prints` counts them, where they are more than `free`.
-    /// The caller says which function that step performs, as `next_function` does. A text isn't
-    /// measured where there is room for the whole neutral string. This processor's own choice.
+    /// How many bytes the next step prints, by `ps` or `pf` and whatever the input, where they are more than
+    /// `free`. None if they aren't, where the run is over, and where the allowance is used up. The caller
+    /// says which function that step performs, as `next_function` does. A text isn't measured where there
+    /// is room for the whole neutral string. This processor's own choice.
     pub fn prints_past(&mut self, function: Option<Function>, free: u64) -> Option<u32>
     {
         if prints(function) {

@@ -1,7 +1,7 @@
 use Rattle.trac_core.proofs.Imports.{◌<◌, ◌≤◌, ap, arith, length}
 use Rattle.trac_functions.proofs.ArgumentLemmas.{none-left}
 use Rattle.trac_functions.proofs.FormLemmas.{next-left, fewer-left, texts-bounded}
-use Rattle.trac_core.proofs.machine.open_calls.arguments_left.Goals as goal
+use Rattle.trac_core.proofs.machine.arguments.arguments_left.Goals as goal
 
 pub loop-arguments-smaller : goal.loop-arguments-smaller
 loop-arguments-smaller c =

@@ -1,6 +1,6 @@
 use Rattle.trac_core.proofs.Imports.{◌≡◌, ◌+◌, length, texts}
 use Rattle.trac_functions.specs.Calls.{AreArguments}
-use Rattle.trac_core.proofs.machine.open_calls.arguments_left.Given as goal
+use Rattle.trac_core.proofs.machine.arguments.arguments_left.Given as goal
 
 -- the arguments that were counted, and those that are left
 abbrev pub invariant-loop-arguments : goal.invariant-loop-arguments
