@@ -4,3 +4,4 @@ pub mod NextArgument
 mod Imports
 pub mod Sources
 pub mod ArgumentLengths
+pub mod Seen

@@ -41,6 +41,11 @@ abbrev pub ends_call : ScanningRule → Bool
 ends_call row.EndOfCall = true
 ends_call _ = false
 
+-- whether a rule takes over a protected text, or drops what stands behind a left parenthesis
+abbrev pub protects : ScanningRule → Bool
+protects row.Protection = true
+protects _ = false
+
 -- the mark of the innermost call of a machine; none if it isn't looked for
 abbrev pub seen_call : Bool → MachineState → Option CallMark
 seen_call true m = mark_of 0 (neutral_in m.memory)

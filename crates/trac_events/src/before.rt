@@ -1,6 +1,6 @@
 //! What you can see of a machine before a step, and the value of a call after it.
 ghost use Rattle.std.specs.Prelude.{◌≡◌};
-ghost use Rattle.trac_events.specs.Calls.{IsSeen, SeesValue, ends_call, reads, value_behind};
+ghost use Rattle.trac_events.specs.Calls.{IsSeen, SeesValue, ends_call, protects, reads, value_behind};
 ghost use Rattle.trac_events.specs.Calls.{DepthFollows, depth_in};
 
 use trac_core::{Awaits, CallMark, Machine, ScanningRule};
@@ -30,11 +30,17 @@ pub struct Before {
 impl Before {
     /// Looks at a machine before a step. Looks at the call that the step performs only if you ask for it or
     /// it reads.
+    #[tactic(auto, using(crate::proofs::Seen::nothing_awaited, crate::proofs::Seen::nothing_dropped))]
     pub fn new(machine: &Machine, with_call: bool) -> Before
         ensures { IsSeen machine.now with_call result }
     {
         let rule = machine.next_rule();
-        let awaits = machine.awaits();
+        let awaits = if ends_call(rule) {
+            machine.awaits()
+        } else {
+            Awaits::Nothing
+        };
+        let drops = if protects(rule) { machine.drops() } else { 0 };
         let call = if ends_call(rule) && (with_call || reads(awaits)) {
             machine.call_mark(0)
         } else {
@@ -47,7 +53,7 @@ impl Before {
             awaits,
             active: machine.active().len(),
             meta: machine.meta(),
-            drops: machine.drops(),
+            drops,
             call,
         }
     }
@@ -106,6 +112,13 @@ fn ends_call(rule: ScanningRule) -> bool
     ensures { result ≡ ends_call rule }
 {
     matches!(rule, ScanningRule::EndOfCall)
+}
+
+// Whether a step by this rule takes over a protected text, or drops what stands behind a left parenthesis.
+fn protects(rule: ScanningRule) -> bool
+    ensures { result ≡ protects rule }
+{
+    matches!(rule, ScanningRule::Protection)
 }
 
 // Whether a step reads.

@@ -90,7 +90,7 @@ fn push_number<A: Allocator>(text: &mut Vec<u8, A>, n: u32) -> Result<(), AllocE
 fn surplus_place(highest: u32, ending: &Ending) -> Option<Origin>
     ensures { result ≡ surplus_place highest ending.now }
 {
-    let place = ending.places.get(highest as usize + 1).copied();
+    let place = ending.places.get(highest as usize + 1).copied()?;
     let surplus = argument(ending.arguments, highest.saturating_add(2));
-    written_with(place, ending, surplus)
+    written_with(Some(place), ending, surplus)
 }

@@ -128,8 +128,8 @@ fn ignored_place(most: u32, ending: &Ending) -> Option<Origin>
     requires { most < 2 ^ 32 - 1 }
     ensures { result ≡ ignored_place most ending.now }
 {
-    let place = ending.places.get(most as usize).copied();
-    written_with(place, ending, argument(ending.arguments, most + 1))
+    let place = ending.places.get(most as usize).copied()?;
+    written_with(Some(place), ending, argument(ending.arguments, most + 1))
 }
 
 /// The place of an argument. None if it is null or wasn't written in the same text as the call.

@@ -113,8 +113,11 @@ pub(crate) fn look_at_meta_change<A: Allocator + Copy>(
     ensures said { OnOk result (Warns warnings.old.items warnings.new.items
         (meta_change_warnings function ending.now)) }
 {
+    if !changes_meta(function) {
+        return Ok(());
+    }
     let new = argument(ending.arguments, 1);
-    if changes_meta(function) && begins_with_line_end(new) && has_two_at_end(ending.input) {
+    if begins_with_line_end(new) && has_two_at_end(ending.input) {
         return warn(warnings, alloc, Suspicion::LineEndAsMeta, ending.begin, new);
     }
     Ok(())

@@ -3,7 +3,7 @@ ghost use Rattle.std.specs.Prelude.{◌≡◌, ◌≢◌, ◌<◌, ◌↔◌, �
 ghost use Rattle.std.specs.Prelude.{length, option_to_list, reverse};
 ghost use Rattle.trac_events.specs.Calls.{IsSeen};
 ghost use Rattle.trac_warnings.specs.Counted.{counts_behind, counts_of};
-ghost use Rattle.trac_warnings.specs.Looked.{Looks};
+ghost use Rattle.trac_warnings.specs.Looked.{Looks, place_of};
 ghost use Rattle.trac_warnings.specs.Origins.{in_input, moved};
 ghost use Rattle.trac_warnings.specs.Performed.{Warns};
 ghost use Rattle.trac_warnings.specs.StepWarnings.{JudgesStep, calls_behind, rule_warnings, strings_behind};
@@ -160,19 +160,22 @@ impl<A: Allocator + Copy> Watch<A> {
         let here = self.origin();
         let origin = self.value_origin(before, machine);
         let active = machine.active();
-        self.warn_of_rule(before, active, machine.neutral().len())?;
+        self.warn_of_rule(before, here, active, machine.neutral().len())?;
         self.move_on(before, machine, origin)?;
         self.warn_of_read(before, before.value(machine), active.len(), input)?;
         self.warn_of_ends(before.rule, active.len(), here)
     }
 
-    // Looks at what a step did, by its rule, and left in the strings.
+    // Looks at what a step did, by its rule, and left in the strings. The first character of the active string was
+    // written at `origin` before it.
     fn warn_of_rule(
         &mut self,
         before: &Before,
+        origin: Origin,
         active: &[Cell],
         neutral: usize,
     ) -> Result<(), AllocError>
+        requires { origin ≡ place_of self.old }
         ensures kept { Kept self.old.warnings.items self.new.warnings.items }
         ensures said { OnOk result (Warns self.old.warnings.items self.new.warnings.items
             (rule_warnings before.now.rule self.old before.now (length active.now) neutral)) }
@@ -184,7 +187,6 @@ impl<A: Allocator + Copy> Watch<A> {
         ensures runs { self.new.runs.items ≡ self.old.runs.items }
         ensures read { self.new.read ≡ self.old.read }
     {
-        let origin = self.origin();
         match before.rule {
             ScanningRule::Idling => {
                 self.begin_again();

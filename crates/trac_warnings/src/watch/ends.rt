@@ -1,12 +1,12 @@
 //! The ends of strings that were read: what is still open there.
-ghost use Rattle.std.specs.Prelude.{◌≡◌, ◌<◌, ◌&&◌, [], OnOk, drop, false, map, nat_lt, reverse};
+ghost use Rattle.std.specs.Prelude.{◌≡◌, ◌<◌, ◌&&◌, [], List, OnOk, drop, false, map, nat_lt, reverse};
 ghost use Rattle.trac_warnings.specs.Looked.{Looks};
 ghost use Rattle.trac_warnings.specs.Origins.{in_input};
 ghost use Rattle.trac_warnings.specs.Performed.{Warns};
 ghost use Rattle.trac_warnings.specs.StepWarnings.{end_warnings, ended, ends_in_word, is_dropped_last};
 ghost use Rattle.trac_warnings.specs.StepWarnings.{is_ended_at, is_letter_at};
 ghost use Rattle.trac_warnings.specs.StepWarnings.{is_protection, left_open, not_ended};
-ghost use Rattle.trac_warnings.specs.Watched.{Kept, KeepsRun, said};
+ghost use Rattle.trac_warnings.specs.Watched.{Kept, KeepsRun, Said, said};
 
 use super::calls::{calls_beyond, warn_of_open_calls};
 use super::{OpenString, Watch};
@@ -36,6 +36,9 @@ impl<A: Allocator + Copy> Watch<A> {
         ensures calls { self.new.calls.items ≡ self.old.calls.items }
         ensures written { self.new.written ≡ self.old.written }
     {
+        if !ends_within(&self.strings, active) {
+            return Ok(());
+        }
         for _ in 0..self.strings.len() {
             let Some(string) = self.strings.pop() else {
                 return Ok(());
@@ -114,6 +117,18 @@ impl<A: Allocator + Copy> Watch<A> {
             Some(warning) => matches!(warning.suspicion, Suspicion::Dropped),
             None => false,
         }
+    }
+}
+
+// Whether the last of the strings that are scanned ends where `active` cells are left in the active string.
+fn ends_within(strings: &[OpenString], active: usize) -> bool
+    ensures said { result ≡ false → (rule : ScanningRule) (here : Origin) (calls : List Origin) (reported : List Said) →
+        ended rule active here calls reported (reverse strings.now) ≡ reported }
+    ensures strings { result ≡ false → not_ended active (reverse strings.now) ≡ reverse strings.now }
+{
+    match strings {
+        [.., string] => active <= string.rest,
+        [] => false,
     }
 }
 
