@@ -137,7 +137,9 @@ class Suspicions(Lecture):
         self.put('script', "#(ps,a))'")
         self.wait(lambda: self.script(self.SPOTS) == [['script-marks', 7, ')']])
         self.put('script', "#(ps,(a'")
-        self.wait(lambda: self.script(self.SPOTS) == [['script-marks', 5, '('], ['script-marks', 7, "'"]])
+        self.wait(lambda: self.script(self.SPOTS) == [['script-marks', 5, '(']])
+        self.put('script', "#(ps,(a'b'")
+        self.wait(lambda: self.script(self.SPOTS) == [['script-marks', 7, "'"]])
 
     def sheet(self):
         return self.script("return document.getElementById('script-marks').textContent")

@@ -28,7 +28,8 @@ const AS_WRITTEN = new RegExp('((?<=^in the value of ).*?(?=, column \\d)|(?<=th
     + '|in the name of a call:|inside longer words:|not performed, of|small letters:) ).*$'
     + '|(?<=ended here; the form ).*(?= was called \\d+ times$))', 's');
 /** The engine's lines on the end of a run that a fault ended. */
-const OF_THE_END = /^(?:in the value of .*?, column \d+: )?(?:the run ended here|this call was open when the run ended)/s;
+const OF_THE_END = new RegExp('^(?:in the value of .*?, column \\d+: )?'
+    + '(?:the run ended here|this call was open when the run ended)', 's');
 
 /**
  * A place in a text, in the units of a string.

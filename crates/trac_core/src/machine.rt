@@ -188,22 +188,18 @@ impl<'a> Machine<'a> {
     {
         prove!(self.steps <= self.allowance);
         prove!(self.work.used() <= self.work.room());
-        match outcome.fate {
-            None | Some(Fate::Halted | Fate::InputEnded) => {
-                self.steps += 1;
-                self.peak = self.peak.max(outcome.need);
-            }
-            Some(Fate::InputFailed | Fate::OutputFailed) => {
-                self.peak = self.peak.max(outcome.need);
-            }
-            Some(Fate::Workspace | Fate::Steps) => {}
-        }
+        let before = Counters {
+            allowance: self.allowance,
+            steps: self.steps,
+            peak: self.peak,
+        };
+        let counters = before.after(outcome);
+        self.steps = counters.steps;
+        self.peak = counters.peak;
+        self.fate = outcome.fate;
         prove!(self.steps <= self.allowance);
         prove!(self.peak <= self.work.room());
         prove!(self.work.used() <= self.work.room());
-        if outcome.fate.is_some() {
-            self.fate = outcome.fate;
-        }
         outcome.fate
     }
 
@@ -310,28 +306,28 @@ struct Counters {
     peak: u32,
 }
 
-/// What a run reports that ended with this fate in a step that needed `need` cells, after `steps`
-/// steps and with this peak.
-fn ended(fate: Fate, need: u32, steps: u64, peak: u32) -> Report
-    requires allowed { counts_as_step (Some fate) ≡ true → steps < 2 ^ 64 - 1 }
-    ensures counts { (m : MachineState) (after : Memory) → m.steps ≡ steps → m.peak ≡ peak →
-        let after = counted m after need (Some fate) in
-        result ≡ record { fate = fate; steps = after.steps; peak = after.peak } }
-    ensures fate { result.fate ≡ fate }
-    ensures steps { result.steps ≤ steps + 1 }
-    ensures peak { result.peak ≤ max peak need }
-{
-    match fate {
-        Fate::Halted | Fate::InputEnded => Report {
-            fate,
-            steps: steps + 1,
-            peak: peak.max(need),
-        },
-        Fate::InputFailed | Fate::OutputFailed => Report {
-            fate,
-            steps,
-            peak: peak.max(need),
-        },
-        Fate::Workspace | Fate::Steps => Report { fate, steps, peak },
+impl Counters {
+    /// The counters after a step that came to this.
+    #[inline]
+    fn after(self, outcome: StepOutcome) -> Counters
+        requires within { self.steps ≤ self.allowance }
+        requires allowed { counts_as_step outcome.fate ≡ true → self.steps < self.allowance }
+        ensures counts { (m : MachineState) (memory : Memory) →
+            m.steps ≡ self.steps → m.peak ≡ self.peak →
+            let after = counted m memory outcome.need outcome.fate in
+            result ≡ record self { steps = after.steps; peak = after.peak } }
+        ensures steps { result.steps ≤ self.allowance }
+        ensures peak { result.peak ≤ max self.peak outcome.need }
+    {
+        let peak = self.peak.max(outcome.need);
+        match outcome.fate {
+            None | Some(Fate::Halted | Fate::InputEnded) => Counters {
+                steps: self.steps + 1,
+                peak,
+                ..self
+            },
+            Some(Fate::InputFailed | Fate::OutputFailed) => Counters { peak, ..self },
+            Some(Fate::Workspace | Fate::Steps) => self,
+        }
     }
 }

@@ -13,8 +13,7 @@ pub struct Causes {
     /// A meta character inside a word ended a string inside parentheses. What stands behind it is scanned as another
     /// string, so calls stay open, parentheses have no match, forms are missing and arguments are ignored.
     end_inside: bool,
-    /// A parenthesis was left open at the end of a string, so the call around it was never performed: forms are
-    /// missing.
+    /// A parenthesis was left open at the end of a string, so the call around it was not performed: forms are missing.
     left_open: bool,
     /// No call begins at a colon, a blank or a parenthesis without a number sign: forms are missing.
     no_call: bool,

@@ -91,7 +91,7 @@ class Suspicion(NamedTuple):
 
 @dataclass(frozen=True)
 class Check:
-    """The result of a check of a script. It is true if nothing is suspicious."""
+    """The result of a check of a script. It is true if nothing is suspicious, as the place of a fault is."""
 
     suspicions: list[Suspicion]
     """What is suspicious, in the order of the places."""

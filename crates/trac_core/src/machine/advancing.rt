@@ -8,13 +8,13 @@ ghost use Rattle.trac_core.specs.Advancing.{Advanced, advanced_to};
 ghost use Rattle.trac_core.specs.Driving.{Driven, standing};
 ghost use Rattle.trac_core.specs.Session.{next_function};
 
-use super::{Counters, Machine, ended};
+use super::{Counters, Machine};
 use crate::idling::{IDLING_STEPS, begin_idling, may_begin_idling};
 use crate::performer::{Alone, Performer};
 use crate::run_hints::RunHints;
 use crate::scan::{NextAction, scan_steps};
 use trac_forms::Work;
-use trac_language::{Fate, Function, Report};
+use trac_language::{Fate, Function};
 
 /// What `advance` did.
 #[derive(Clone, Copy)]
@@ -172,8 +172,13 @@ fn go_on<I, O, P: Performer<I, O>>(
                     Err(function) => return going(reach - left, function, hints, at.steps, peak),
                 };
                 if let Some(fate) = last.fate {
-                    let report = ended(fate, last.need, at.steps + (reach - left), peak);
-                    return over(reach - left, work.neutral_len(), report);
+                    let before = Counters {
+                        allowance: at.allowance,
+                        steps: at.steps + (reach - left),
+                        peak,
+                    };
+                    let counters = before.after(last);
+                    return over(reach - left, work.neutral_len(), fate, counters);
                 }
                 left -= 1;
                 peak = peak.max(last.need);
@@ -185,22 +190,22 @@ fn go_on<I, O, P: Performer<I, O>>(
     going(reach, None, hints, at.steps, peak)
 }
 
-/// The advance of `done` steps, after which the run is over with this report.
-fn over(done: u64, no_comma_from: u32, report: Report) -> Advance
+/// `done` steps, behind which the run is over with this fate and these counters.
+fn over(done: u64, no_comma_from: u32, fate: Fate, counters: Counters) -> Advance
     ensures { result ≡ record {
       progress = record { done = done; next = None };
       no_comma_from = no_comma_from;
-      steps = report.steps;
-      peak = report.peak;
-      fate = Some report.fate;
+      steps = counters.steps;
+      peak = counters.peak;
+      fate = Some fate;
     } }
 {
     Advance {
         progress: Progress { done, next: None },
         no_comma_from,
-        steps: report.steps,
-        peak: report.peak,
-        fate: Some(report.fate),
+        steps: counters.steps,
+        peak: counters.peak,
+        fate: Some(fate),
     }
 }
 

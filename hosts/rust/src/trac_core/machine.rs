@@ -97,19 +97,15 @@ impl<'a> Machine<'a> {
     /// Counts a step with this outcome, of a run that is not over.
     fn count(&mut self, outcome: StepOutcome) -> Option<Fate>
     {
-        match outcome.fate {
-            None | Some(Fate::Halted | Fate::InputEnded) => {
-                self.steps += 1;
-                self.peak = self.peak.max(outcome.need);
-            }
-            Some(Fate::InputFailed | Fate::OutputFailed) => {
-                self.peak = self.peak.max(outcome.need);
-            }
-            Some(Fate::Workspace | Fate::Steps) => {}
-        }
-        if outcome.fate.is_some() {
-            self.fate = outcome.fate;
-        }
+        let before = Counters {
+            allowance: self.allowance,
+            steps: self.steps,
+            peak: self.peak,
+        };
+        let counters = before.after(outcome);
+        self.steps = counters.steps;
+        self.peak = counters.peak;
+        self.fate = outcome.fate;
         outcome.fate
     }
 
@@ -157,21 +153,20 @@ struct Counters {
     peak: u32,
 }
 
-/// What a run reports that ended with this fate in a step that needed `need` cells, after `steps`
-/// steps and with this peak.
-fn ended(fate: Fate, need: u32, steps: u64, peak: u32) -> Report
-{
-    match fate {
-        Fate::Halted | Fate::InputEnded => Report {
-            fate,
-            steps: steps + 1,
-            peak: peak.max(need),
-        },
-        Fate::InputFailed | Fate::OutputFailed => Report {
-            fate,
-            steps,
-            peak: peak.max(need),
-        },
-        Fate::Workspace | Fate::Steps => Report { fate, steps, peak },
+impl Counters {
+    /// The counters after a step that came to this.
+    #[inline]
+    fn after(self, outcome: StepOutcome) -> Counters
+    {
+        let peak = self.peak.max(outcome.need);
+        match outcome.fate {
+            None | Some(Fate::Halted | Fate::InputEnded) => Counters {
+                steps: self.steps + 1,
+                peak,
+                ..self
+            },
+            Some(Fate::InputFailed | Fate::OutputFailed) => Counters { peak, ..self },
+            Some(Fate::Workspace | Fate::Steps) => self,
+        }
     }
 }

@@ -1,13 +1,13 @@
 // Generated from crates/trac_core/src/machine/advancing.rt by hosts/rust/generate, and never edited.
 //! Steps, as many as follow one another.
 
-use super::{Counters, Machine, ended};
+use super::{Counters, Machine};
 use crate::trac_core::idling::{IDLING_STEPS, begin_idling, may_begin_idling};
 use crate::trac_core::performer::{Alone, Performer};
 use crate::trac_core::run_hints::RunHints;
 use crate::trac_core::scan::{NextAction, scan_steps};
 use crate::trac_forms::Work;
-use crate::trac_language::{Fate, Function, Report};
+use crate::trac_language::{Fate, Function};
 
 /// What `advance` did.
 #[derive(Clone, Copy, Debug)]
@@ -125,8 +125,13 @@ fn go_on<I, O, P: Performer<I, O>>(
                     Err(function) => return going(reach - left, function, hints, at.steps, peak),
                 };
                 if let Some(fate) = last.fate {
-                    let report = ended(fate, last.need, at.steps + (reach - left), peak);
-                    return over(reach - left, work.neutral_len(), report);
+                    let before = Counters {
+                        allowance: at.allowance,
+                        steps: at.steps + (reach - left),
+                        peak,
+                    };
+                    let counters = before.after(last);
+                    return over(reach - left, work.neutral_len(), fate, counters);
                 }
                 left -= 1;
                 peak = peak.max(last.need);
@@ -138,15 +143,15 @@ fn go_on<I, O, P: Performer<I, O>>(
     going(reach, None, hints, at.steps, peak)
 }
 
-/// The advance of `done` steps, after which the run is over with this report.
-fn over(done: u64, no_comma_from: u32, report: Report) -> Advance
+/// `done` steps, behind which the run is over with this fate and these counters.
+fn over(done: u64, no_comma_from: u32, fate: Fate, counters: Counters) -> Advance
 {
     Advance {
         progress: Progress { done, next: None },
         no_comma_from,
-        steps: report.steps,
-        peak: report.peak,
-        fate: Some(report.fate),
+        steps: counters.steps,
+        peak: counters.peak,
+        fate: Some(fate),
     }
 }
 

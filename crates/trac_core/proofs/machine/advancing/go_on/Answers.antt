@@ -1,8 +1,9 @@
-use Rattle.trac_core.proofs.Imports.{◌≡◌, ◌≤◌, ◌+◌, ◌-◌, cells, AsksFor, refl, sym, ap, ◌∙◌, subst, arith, ⊎_elim, inl, inr, None, Some, length-drop, Contents, memory_of, turning, standing, GoesBy, PerformedFor}
+use Rattle.trac_core.proofs.Imports.{◌≡◌, ◌≤◌, ◌+◌, ◌-◌, cells, AsksFor, refl, sym, ap, ◌∙◌, subst, arith, ⊎_elim, inl, inr, None, Some, length-drop, Contents, memory_of, counted, turning, standing, GoesBy, PerformedFor}
 use Rattle.trac_core.specs.StepsInRow.{idling_begun}
 use Rattle.trac_core.proofs.RunningOn.{need-fits, need-counted}
 use Rattle.trac_core.proofs.Advancing.{counters_after, drive-run, drive-step, drive-idling, drive-stays, drive-ends, least-of}
 use Rattle.trac_core.specs.declared.run_hints.RunHints.{RunHints}
+use Rattle.trac_core.specs.declared.machine.Counters.{Counters}
 use Rattle.trac_core.proofs.machine.advancing.go_on.Goals as goal
 
 pub loop-left-preserved-in-Ok : goal.loop-left-preserved-in-Ok
@@ -80,10 +81,13 @@ returns-in-Some-clause-driven g c = λ stops.
     let h = c.in-Ok-perform.ensures in
     let last = c.in-Ok-perform.last in
     let ends = subst (λ fate. PerformedFor performed fate last.need w c.loop-left.meta c.loop-left.source c.loop-left.sink c.perform.new.work c.perform.new.meta c.perform.new.source c.perform.new.sink) c.in-Some.is h.done in
-    let counts = c.ended-report.ensures.counts (turning stops w c.loop-left.meta at) (memory_of c.perform.new.meta c.perform.new.work) refl refl in
+    let before : Counters = record { allowance = c.args.at.allowance; steps = c.args.at.steps + done; peak = c.loop-left.peak } in
+    let m = turning stops w c.loop-left.meta at in
+    let memory = memory_of c.perform.new.meta c.perform.new.work in
+    let counts = subst (λ fate. c.after-counters.result ≡ record before { steps = (counted m memory last.need fate).steps; peak = (counted m memory last.need fate).peak }) c.in-Some.is (c.after-counters.ensures.counts m memory refl refl) in
     drive-ends performed start stops w c.perform.new.work c.loop-left.meta c.args.at done c.loop-left.peak
     (g.P.Performer.declines c.args.performer) c.args.most c.perform.new.meta last.need c.neutral_len-in-Some.result c.in-Some.fate _ c.loop-left.source c.perform.new.source c.loop-left.sink c.perform.new.sink h.keeps.room (omega (arith, i.allowed, i.few, c.loop-left-test.true)) (omega (arith, i.wanted, i.few, c.loop-left-test.true)) ends
-    (c.over.ensures ∙ ap (λ report. record { progress = record { done = done; next = None }; no_comma_from = c.neutral_len-in-Some.result; steps = report.steps; peak = report.peak; fate = Some report.fate }) counts) goes
+    (c.over.ensures ∙ ap (λ (counters : Counters). record { progress = record { done = done; next = None }; no_comma_from = c.neutral_len-in-Some.result; steps = counters.steps; peak = counters.peak; fate = Some c.in-Some.fate }) counts) goes
 
 pub loop-left-preserved : goal.loop-left-preserved
 loop-left-preserved g c =
