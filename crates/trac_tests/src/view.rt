@@ -82,6 +82,7 @@ fn the_two_strings(rt: HostRuntime) {
 }
 
 /// The call that the next step performs.
+#[derive(Clone, Copy)]
 struct NextCall {
     /// The function that it names.
     function: Option<Function>,

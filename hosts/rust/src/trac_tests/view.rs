@@ -82,6 +82,7 @@ fn the_two_strings() {
 }
 
 /// The call that the next step performs.
+#[derive(Clone, Copy, Debug)]
 struct NextCall {
     /// The function that it names.
     function: Option<Function>,
