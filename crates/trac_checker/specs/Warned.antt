@@ -106,12 +106,12 @@ causes_with causes [] = causes
 causes_with causes (f ∷ found) = causes_with (with_cause f.0.suspicion causes) found
 
 -- what is told of what was found: all but what another warning explains
-abbrev pub told_by : Causes → Found → Found
-told_by causes found = filter (λ f. not (is_explained causes f.0)) found
+abbrev pub unexplained_by : Causes → Found → Found
+unexplained_by causes found = filter (λ f. not (is_explained causes f.0)) found
 
 -- what is told of what was found, at most one line for one cause
 abbrev pub unexplained : Found → Found
-unexplained found = told_by (causes_with no_cause found) found
+unexplained found = unexplained_by (causes_with no_cause found) found
 
 -- the lines on what was found in `script`, with the `names` of its forms, and the line on a fault, if there was one
 abbrev pub lines_of : Text → List Text → Found → Report → Text

@@ -152,9 +152,11 @@ impl<A: Allocator + Copy> WatchedRun<A> {
         ensures { result ≡ length (unexplained (found_of self.now.findings.counts.entries)) }
     {
         let causes = causes_of(&self.findings);
+        let all = self.findings.len();
         let mut count: usize = 0;
         for (warning, _) in self.findings.counts() {
             if !causes.explain(warning) {
+                prove!(count < all);
                 count += 1;
             }
         }

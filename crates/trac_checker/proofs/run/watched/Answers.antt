@@ -42,7 +42,7 @@ returns-in-Some g c =
       moves = judged.moved;
       reads = judged.read;
       tells = judged.tells;
-      counted = told.counted;
+      counted = judged.counted;
     } in
     record {
       input_failed = omega (arith, h.input_failed, failures, i.source_failures);
@@ -80,7 +80,7 @@ loop-findings-preserved g c =
       moves = judged.moved;
       reads = judged.read;
       tells = judged.tells;
-      counted = told.counted;
+      counted = judged.counted;
     } in
     record {
       not_over = h.fate;
