@@ -34,8 +34,8 @@ IsNeutral m neutral = IsNeutralIn m.memory neutral
 
 -- `new` is `old` with the line of a step, by what was seen before it, its need, and the machine `m` after it,
 -- and with the line of what the step dropped
-abbrev pub TellsDone : ℕ → Before → ℕ → MachineState → (old new : List ℕ) → Type 0
-TellsDone width before need m old new =
+abbrev pub AddsDone : ℕ → Before → ℕ → MachineState → (old new : List ℕ) → Type 0
+AddsDone width before need m old new =
     (neutral : List Cell) × ((active : List Cell) × (IsNeutral m neutral
     × ((text_of_cells active ≡ m.memory.active)
     × (new ≡ (old ++ step_text width m.steps before.rule before.size need neutral active)
@@ -43,17 +43,17 @@ TellsDone width before need m old new =
 
 -- `new` is `old` with the lines of a step, if it was done, and with the line of what it printed, if it
 -- printed anything
-abbrev pub TellsPrinted : Bool → ℕ → Before → ℕ → List ℕ → MachineState → (old new : List ℕ)
+abbrev pub AddsPrinted : Bool → ℕ → Before → ℕ → List ℕ → MachineState → (old new : List ℕ)
     → Type 0
-TellsPrinted true width before need printed m old new =
-    (line : List ℕ) × (TellsDone width before need m old line × (new ≡ line ++ output_text printed))
-TellsPrinted false width before need printed m old new = new ≡ old ++ output_text printed
+AddsPrinted true width before need printed m old new =
+    (line : List ℕ) × (AddsDone width before need m old line × (new ≡ line ++ output_text printed))
+AddsPrinted false width before need printed m old new = new ≡ old ++ output_text printed
 
 -- `new` is `old` with the lines of a step and of what it printed; the step was done if machine `m` after it
 -- has done more steps than the one before
-abbrev pub TellsStep : ℕ → Before → ℕ → List ℕ → MachineState → (old new : List ℕ) → Type 0
-TellsStep width before need printed m old new =
-    TellsPrinted (nat_lt before.done m.steps) width before need printed m old new
+abbrev pub AddsStep : ℕ → Before → ℕ → List ℕ → MachineState → (old new : List ℕ) → Type 0
+AddsStep width before need printed m old new =
+    AddsPrinted (nat_lt before.done m.steps) width before need printed m old new
 
 -- the cells that each part of a machine's block holds, if its neutral string has `neutral` cells
 abbrev pub parts_of : MachineState → ℕ → Parts
@@ -69,8 +69,8 @@ abbrev pub parts_line : Parts → List ℕ
 parts_line parts = parts_text parts.forms parts.neutral parts.active parts.free
 
 -- `new` is `old` with the lines on a fault; `string` is where the string that was read last began
-abbrev pub TellsFault : ℕ → Place → MachineState → (old new : List ℕ) → Type 0
-TellsFault width string m old new =
+abbrev pub AddsFault : ℕ → Place → MachineState → (old new : List ℕ) → Type 0
+AddsFault width string m old new =
     (neutral : List Cell) × (IsNeutral m neutral
     × (new ≡ old ++ where_text (one_more m.steps) string ++ open_calls_text width neutral
     ++ largest_text width 5 None m.memory.forms ++ parts_line (parts_of m (length neutral))))
@@ -82,12 +82,12 @@ forms_text views m =
     else []
 
 -- `new` is `old` with the lines on a fault, for some place in the input, if there was a fault
-abbrev pub TellsWhere : Bool → ℕ → MachineState → (old new : List ℕ) → Type 0
-TellsWhere true width m old new = (string : Place) × TellsFault width string m old new
-TellsWhere false width m old new = new ≡ old
+abbrev pub AddsWhere : Bool → ℕ → MachineState → (old new : List ℕ) → Type 0
+AddsWhere true width m old new = (string : Place) × AddsFault width string m old new
+AddsWhere false width m old new = new ≡ old
 
 -- `new` is `old` with how the run ended, with the forms, and with the lines on a fault, if that ended it
-abbrev pub TellsEnd : Views → Fate → ℕ → MachineState → (old new : List ℕ) → Type 0
-TellsEnd views fate peak m old new =
-    TellsWhere (is_fault fate) views.width m
+abbrev pub AddsEnd : Views → Fate → ℕ → MachineState → (old new : List ℕ) → Type 0
+AddsEnd views fate peak m old new =
+    AddsWhere (is_fault fate) views.width m
     (old ++ end_text fate m.steps peak ++ forms_text views m) new

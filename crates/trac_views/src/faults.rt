@@ -4,7 +4,7 @@ ghost use Rattle.std.specs.List.{position_or_len};
 ghost use Rattle.trac_space.specs.Cells.{is_call};
 ghost use Rattle.trac_views.specs.CallLines.{around_text, is_fault, open_calls_text, open_text};
 ghost use Rattle.trac_views.specs.CallLines.{opened_text};
-ghost use Rattle.trac_views.specs.Faults.{TellsFault, parts_of};
+ghost use Rattle.trac_views.specs.Faults.{AddsFault, parts_of};
 ghost use Rattle.trac_views.specs.CallLines.{open_line, parts_text, place_text, skip_behind, where_text};
 
 use crate::escapes::{opening, push_cells_cut};
@@ -38,7 +38,7 @@ pub fn push_fault<A: Allocator + Copy>(
     string: Place,
     width: u32,
 ) -> Result<(), AllocError>
-    ensures { OnOk result (TellsFault width string machine.now lines.old.items lines.new.items) }
+    ensures { OnOk result (AddsFault width string machine.now lines.old.items lines.new.items) }
 {
     let neutral = machine.neutral();
     push_where(lines, machine.steps().saturating_add(1), string)?;
