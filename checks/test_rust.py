@@ -122,7 +122,7 @@ class Changed(unittest.TestCase):
             file.write(text.replace(old, new, 1))
 
     def test_an_edit_of_a_source_or_of_the_rust_shows(self):
-        for name, old, new in (('crates/trac_core/src/machine.rt', 'self.steps += 1;', 'self.steps += 2;'),
+        for name, old, new in (('crates/trac_core/src/machine.rt', 'steps: self.steps + 1,', 'steps: self.steps + 2,'),
                                ('hosts/rust/src/trac_values/text.rs', 'pub fn equal', 'pub fn same')):
             with self.subTest(name=name):
                 self.assertEqual(generate(self.top, '--check').returncode, 0)
