@@ -56,7 +56,7 @@ held-at table forms index s k less is =
     let e = index.all k h.within h.there in
     (h.within, e.1.1.begins, omega (arith, h.within, index.overflow))
 
--- a index area that is kept or let go
+-- an index area that is kept or let go
 pub index-kept : (was now : List Cell) (forms : List Form) → IsKept was now → IsIndexed was forms → IsIndexed now forms
 index-kept was now forms kept h =
     ⊎_elim (λ e. subst (λ table. IsIndexed table forms) (sym e) h) (λ e. λ some. absurd (omega (arith, some, ap length e))) kept
