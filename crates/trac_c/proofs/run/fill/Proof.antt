@@ -7,7 +7,7 @@ use prog.Wp.{after_turn}
 use contract.Running.{tables_of}
 use denote.Enum.Laws as LL
 use Rattle.std.proofs.VecSteps.Shapes.{after}
-use Rattle.std.proofs.ptr.Rows.{El, R, elτ, sz, el_in, empty, room_split, index_area, snoc}
+use Rattle.std.proofs.ptr.Rows.{El, R, elτ, sz, el_in, empty, room_split, spare, snoc}
 use Rattle.trac_space.specs.contracts.cell.Cell as C
 use Rattle.trac_space.specs.declared.cell.Cell.TheVariants.{Byte}
 use Rattle.trac_space.proofs.cell.Cell.TheLaws as C'
@@ -69,7 +69,7 @@ fill_spec 𝓤 𝓛 𝓜 𝓡 wired =
     sets ! (bin ! (get ! refl) (get ! refl) tt) refl (tt, tt) $
     sets ! (agg ! (and_then ! (lit ! tt) (and_then ! (lit ! tt) (no_more !)))) refl good $
     fpick ! (λ xs. move ! (1 ∷ []) $
-    use1 𝓛 (‵ (froom τ b (i * s + o)) ⊛ ‵ (froom (ty_array τ (n - (i + 1))) b (o + (i + 1) * s))) (index_area E 𝓛 b o i n h) $ split ! $
+    use1 𝓛 (‵ (froom τ b (i * s + o)) ⊛ ‵ (froom (ty_array τ (n - (i + 1))) b (o + (i + 1) * s))) (spare E 𝓛 b o i n h) $ split ! $
     assigns ! (of_opd ! (get ! refl)) (through ! refl (stop !)) (init ! 0 refl good) $
     owned ! C.the_row (Is C.the_row) (LL.makes C.the_type C'.the_plain 𝓛) (Byte 0) _ blank_is $
     move ! (1 ∷ 0 ∷ []) $
