@@ -128,7 +128,7 @@ first_some how (v ∷ vs) lt = refl
 
 -- a command whose arguments exclude nothing
 abbrev pub is_plain_app : App → Bool
-is_plain_app a = a.top.is_self_contained && list_all (λ r. r.is_simple && r.is_free) a.top.rules
+is_plain_app a = a.top.is_plain && list_all (λ r. r.is_simple && r.is_free) a.top.rules
 
 -- the name is no flag's that building adds, and is only that of the rule at the place
 abbrev pub is_own_name : Text → ℕ → List Rule → Bool
@@ -154,10 +154,10 @@ module _ (c : Command) (m : ArgMatches) (p : IsParsedFrom c m) (app : App) (is :
   rules_are : map rule_of (args_of c) ≡ app.top.rules
   rules_are = ap (λ (a : App). a.top.rules) is
 
-  is_self_contained : IsPlain c × ((out-Command c).has_globals ≡ false)
-  is_self_contained =
+  is_plain : IsPlain c × ((out-Command c).has_globals ≡ false)
+  is_plain =
       let parts = and_parts _ _ is_plain_is in
-      let fields = plain_fields c (ap (λ (a : App). a.top.is_self_contained) is ∙ parts.0) in
+      let fields = plain_fields c (ap (λ (a : App). a.top.is_plain) is ∙ parts.0) in
       let rules = ap (list_all (λ (r : Rule). r.is_simple && r.is_free)) rules_are ∙ parts.1 in
       ((all_plain (args_of c) rules, fields.groups), fields.globals)
 
@@ -190,7 +190,7 @@ module _ (c : Command) (m : ArgMatches) (p : IsParsedFrom c m) (app : App) (is :
     no_group e at pass (inl g) = elim (pass.3 g) [
       | inl empty ↦ absurd ((owned r.id k app.top.rules own).0 (sym at ∙ empty))
       | inr lots ↦
-          let bad : 0 < 0 = rw (p.from.plain is_self_contained.0).1 at lots in
+          let bad : 0 < 0 = rw (p.from.plain is_plain.0).1 at lots in
           absurd (omega arith)
     ]
 
@@ -215,7 +215,7 @@ module _ (c : Command) (m : ArgMatches) (p : IsParsedFrom c m) (app : App) (is :
     -- the entry of the argument's id, with what holds of it
     entry_at : (x : MatchedArg) → matched_of (found_of m) r.id ≡ Some x → (e : Entry) × (e.1 ≡ x) × (e.0.now ≡ r.id) × EntryPasses p.built e
     entry_at x at =
-        let got = entry_by_id (EntryPasses p.built) (found_of m).entries.items r.id x (p.parsed (p.from.globals ∙ is_self_contained.1)).values at in
+        let got = entry_by_id (EntryPasses p.built) (found_of m).entries.items r.id x (p.parsed (p.from.globals ∙ is_plain.1)).values at in
         (got.0, got.1, (bytes_eq-Decides got.0.0.now r.id).0 got.2, got.3)
 
     -- the text that the argument gives is a text that passed its parser, as that parser reads it
@@ -251,7 +251,7 @@ module _ (c : Command) (m : ArgMatches) (p : IsParsedFrom c m) (app : App) (is :
     default_has_text : WantsDefault arg → arg.action ≡ Some Set → arg.val_delim ≡ None → 1 ≤ least_values arg
         → is_some (one_text (found_of m) r.id) ≡ true
     default_has_text wants set delim least =
-        let there = rw has_id at (default_present c m p is_self_contained.1 k placed.element placed.within wants) in
+        let there = rw has_id at (default_present c m p is_plain.1 k placed.element placed.within wants) in
         let some = the_element (matched_of (found_of m) r.id) (found_by_id (found_of m).entries.items r.id there.0 there.1 there.2) in
         let got = entry_at some.0 some.1 in
         rw (some.1, ← got.1) (first_some got.0.1.reading got.0.1.vals.items (has_values got.0 got.2 got.3 set delim least))
