@@ -7,7 +7,7 @@ use Rattle.trac_warnings.specs.declared.warning.Suspicion.TheVariants.{Colon, Bl
 use Rattle.trac_warnings.specs.declared.warning.Suspicion.TheVariants.{BlankInName, GapInName, Ignored, NoCall}
 use Rattle.trac_warnings.specs.declared.warning.Suspicion.TheVariants.{NoForm, NoFunction, NoGap, OpenCall}
 use Rattle.trac_warnings.specs.declared.warning.Suspicion.TheVariants.{Protection, Dropped, EndInside, OtherMeta}
-use Rattle.trac_warnings.specs.declared.warning.Suspicion.TheVariants.{OpenString}
+use Rattle.trac_warnings.specs.declared.warning.Suspicion.TheVariants.{OpenString, CallPrinted}
 
 -- nothing is known that explains another warning
 abbrev pub no_cause : Causes
@@ -45,6 +45,7 @@ is_explained_so causes is_in_value NoCall = causes.end_inside || causes.left_ope
 is_explained_so causes is_in_value NoForm =
     (causes.end_inside || causes.left_open) || (causes.no_call || causes.bracket)
 is_explained_so causes is_in_value Ignored = causes.end_inside || causes.bracket
+is_explained_so causes is_in_value CallPrinted = causes.no_call || causes.bracket
 is_explained_so causes is_in_value OpenString = causes.other_meta
 is_explained_so causes is_in_value NoGap = causes.blank_in_name
 is_explained_so causes is_in_value NoFunction = causes.gap_in_name && is_in_value

@@ -15,9 +15,11 @@ pub struct Causes {
     end_inside: bool,
     /// A parenthesis was left open at the end of a string, so the call around it was not performed: forms are missing.
     left_open: bool,
-    /// No call begins at a colon, a blank or a parenthesis without a number sign: forms are missing.
+    /// No call begins at a colon, a blank or a parenthesis without a number sign: forms are missing, and a call inside
+    /// it may be printed.
     no_call: bool,
-    /// No call begins at a square bracket: forms are missing, and commas behind it begin arguments of another call.
+    /// No call begins at a square bracket: forms are missing, commas behind it begin arguments of another call, and a
+    /// call inside it may be printed.
     bracket: bool,
     /// Another byte than the apostrophe seems to end the strings, so one has no end.
     other_meta: bool,
@@ -98,6 +100,7 @@ impl Causes {
                 self.end_inside || self.left_open || self.no_call || self.bracket
             }
             Suspicion::Ignored => self.end_inside || self.bracket,
+            Suspicion::CallPrinted => self.no_call || self.bracket,
             Suspicion::OpenString => self.other_meta,
             Suspicion::NoGap => self.blank_in_name,
             Suspicion::NoFunction => self.gap_in_name && is_in_value,
