@@ -4,7 +4,7 @@
  * and what compilers make of it (memcpy, memset) alone.
  *
  * Crates: trac_language trac_space trac_values trac_store trac_forms trac_devices trac_functions trac_laws trac_core trac_image trac_events trac_warnings trac_lent trac_views trac_tracer trac_checker trac_c
- * Sources: 5f7e23787cea01aadb671d82507fe58462857c8c47f8868775f03bdc0227bb15
+ * Sources: c3a9b7658098627ed84d985dc88209814bf73b6be84328682036a7f8e4f04393
  * Kit: rattle-kit-13f logic dac8208d650f15bf
  * Tools: wasm-opt version 108, wabt 1.0.32
  */
@@ -189,8 +189,8 @@ HELPER u32 rem32_u(u32 a, u32 b) {
     return a % b;
 }
 /* Instructions:
- * block 2470, br 1757, br_if 4101, br_table 106, call 1018, drop 125, else 198, end 5482, global.get 234, global.set
- * 316, i32.add 1179, i32.and 687, i32.clz 2, i32.const 5552, i32.div_u 6, i32.eq 767, i32.eqz 947, i32.extend8_s 1,
+ * block 2471, br 1758, br_if 4102, br_table 106, call 1018, drop 125, else 198, end 5483, global.get 234, global.set
+ * 316, i32.add 1179, i32.and 688, i32.clz 2, i32.const 5553, i32.div_u 6, i32.eq 767, i32.eqz 947, i32.extend8_s 1,
  * i32.ge_s 2, i32.ge_u 150, i32.gt_s 9, i32.gt_u 266, i32.le_u 54, i32.load 1519, i32.load16_u 196, i32.load8_s 22,
  * i32.load8_u 2592, i32.lt_s 14, i32.lt_u 210, i32.mul 28, i32.ne 629, i32.or 418, i32.rem_u 1, i32.shl 180,
  * i32.shr_u 66, i32.store 943, i32.store16 381, i32.store8 844, i32.sub 838, i32.wrap_i64 222, i32.xor 19, i64.add
@@ -198,7 +198,7 @@ HELPER u32 rem32_u(u32 a, u32 b) {
  * i64.extend_i32_u 1096, i64.ge_s 218, i64.ge_u 229, i64.gt_s 1, i64.gt_u 457, i64.le_s 10, i64.le_u 271, i64.load
  * 6801, i64.load16_u 29, i64.load32_u 169, i64.load8_u 157, i64.lt_s 27, i64.lt_u 419, i64.mul 333, i64.ne 1140,
  * i64.or 71, i64.rem_u 38, i64.shl 1784, i64.shr_s 9, i64.shr_u 116, i64.store 6213, i64.store16 17, i64.store32 13,
- * i64.store8 21, i64.sub 2755, i64.xor 42, if 2143, local.get 41798, local.set 9829, local.tee 7891, loop 869,
+ * i64.store8 21, i64.sub 2755, i64.xor 42, if 2143, local.get 41800, local.set 9830, local.tee 7892, loop 869,
  * memory.copy 257, memory.fill 55, return 180, select 963, unreachable 238
  */
 
@@ -32391,9 +32391,10 @@ static void engine_check(word result, u64 block, u64 cells, u64 steps, u64 scrip
                                                 w80 = w80 + 1u;
                                             } else {
                                                 u32 n92 = 0u;
-                                                const u32 n893 = n223 | n220;
-                                                const u32 n894 = n223 | n221;
-                                                const u32 n537 = (n222 | n894) | n220;
+                                                const u32 n893 = n223 | n222;
+                                                const u32 n894 = n221 | n220;
+                                                const u32 n118 = n893 | n894;
+                                                const u32 n895 = n223 | n221;
                                                 u64 w84 = 1u;
                                                 word p592;
                                                 word p119;
@@ -33112,44 +33113,51 @@ static void engine_check(word result, u64 block, u64 cells, u64 steps, u64 scrip
                                                     case 31:
                                                     {
                                                         w36 = w37;
-                                                        if (n223)
+                                                        if (n221)
                                                             break;
-                                                        goto L420;
+                                                        goto L698;
                                                     }
                                                     case 4:
                                                     {
                                                         w36 = w37;
-                                                        if (n537 && 1u)
+                                                        if (n118 && 1u)
                                                             break;
-                                                        goto L420;
+                                                        goto L698;
                                                     }
                                                     case 6:
                                                     {
                                                         w36 = w37;
+                                                        if (n895 && 1u)
+                                                            break;
+                                                        goto L698;
+                                                    }
+                                                    case 20:
+                                                    {
+                                                        w36 = w37;
                                                         if (n893 && 1u)
                                                             break;
-                                                        goto L420;
+                                                        goto L698;
                                                     }
                                                     case 33:
                                                     {
                                                         w36 = w37;
                                                         if (n218)
                                                             break;
-                                                        goto L420;
+                                                        goto L698;
                                                     }
                                                     case 26:
                                                     {
                                                         w36 = w37;
                                                         if (n217)
                                                             break;
-                                                        goto L420;
+                                                        goto L698;
                                                     }
                                                     case 0:
                                                     {
                                                         w36 = w37;
                                                         if (load8(p440 + 8u) == 1u && n216)
                                                             break;
-                                                        goto L420;
+                                                        goto L698;
                                                     }
                                                     case 28:
                                                     {
@@ -33158,7 +33166,7 @@ static void engine_check(word result, u64 block, u64 cells, u64 steps, u64 scrip
                                                             break;
                                                     } /* fall through */
                                                     default:
-                                                L420:;
+                                                L698:;
                                                     {
                                                         word p260 = TABLES + 5032u;
                                                         u64 w89 = 0u;
@@ -33791,14 +33799,14 @@ static void engine_check(word result, u64 block, u64 cells, u64 steps, u64 scrip
                                     switch (load8(p439 + 32u) - 1u) {
                                     case 38:
                                     {
-                                        n223 = 1u;
+                                        n221 = 1u;
                                         break;
                                     }
                                     case 35:
                                     case 36:
                                     case 37:
                                     {
-                                        n221 = 1u;
+                                        n220 = 1u;
                                         break;
                                     }
                                     case 2:
@@ -33810,7 +33818,7 @@ static void engine_check(word result, u64 block, u64 cells, u64 steps, u64 scrip
                                     }
                                     case 4:
                                     {
-                                        n220 = 1u;
+                                        n223 = 1u;
                                         break;
                                     }
                                     case 0:
