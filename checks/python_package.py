@@ -20,7 +20,7 @@ def copy_sources(to):
 
 def call(words, **more):
     """Runs a command that must succeed, and gives its output."""
-    done = subprocess.run(words, capture_output=True, text=True, timeout=120, check=False, **more)
+    done = subprocess.run(words, capture_output=True, text=True, timeout=600, check=False, **more)
     if done.returncode:
         raise AssertionError(done.stdout + done.stderr)
     return done.stdout
