@@ -1,50 +1,50 @@
 /* Runs scripts in both engines of engines.h, as the fuzzer does, and also by trac_check, by shown steps, with functions
- * of the host, with forms from outside and their images, and by the rest of trac.h. Standard input has the scripts, each
- * after its length, which has four bytes, the lowest first. Ends with a trap if the engines differ, and otherwise prints
- * how many scripts there were. */
-#include "engines.h"
+ * of the host, with forms from outside, by the rest of trac.h, in little room (tight.c), with images of forms
+ * (images_of_both.c), with little memory (memories.c), and with calls that are refused (refused_by_both.c). Standard
+ * input has the scripts, each after its length, which has four bytes, the lowest first. Ends with a trap if the engines
+ * differ, and otherwise prints how many scripts there were. With -DCHOOSING it also prints for each script how many
+ * edges of the engine it took that no script before it took (choosing.c). */
+#include "covering.h"
 
 #include <stdlib.h>
 
 int LLVMFuzzerTestOneInput(const uint8_t *bytes, size_t count);
-trac_report c_trac_run_zeroed(trac_cell *, size_t, uint64_t, const void *, size_t, void *, size_t);
-trac_report c_trac_check(trac_cell *, size_t, uint64_t, const void *, size_t, void *, size_t, void *, size_t);
-uint32_t c_trac_open_zeroed(trac_machine *, trac_cell *, size_t, uint64_t);
-uint32_t c_trac_again(trac_machine *, uint64_t);
-uint32_t c_trac_take_peak(trac_machine *);
-size_t c_trac_form_text(const trac_form *, void *, size_t);
-size_t c_trac_argument_count(const trac_machine *);
-size_t c_trac_argument(const trac_machine *, size_t, void *, size_t);
-trac_report c_trac_trace_step(trac_machine *, trac_trace *, const void *, size_t, int, void *, size_t, void *, size_t,
-                              void *, size_t);
-trac_report c_trac_run_with(trac_cell *, size_t, uint64_t, void *, size_t, trac_reader, trac_writer, void *);
-uint32_t c_trac_moved(trac_machine *, trac_cell *);
-uint32_t c_trac_stop_at_unknown(trac_machine *, int);
-trac_report c_trac_answer(trac_machine *, const void *, size_t, uint32_t);
-size_t c_trac_printed(const trac_machine *, size_t, void *, size_t);
-trac_report c_trac_skip_print(trac_machine *);
-uint32_t c_trac_define(trac_machine *, const void *, size_t, const uint32_t *, size_t, size_t);
-uint32_t c_trac_define_text(trac_machine *, const void *, size_t, const void *, size_t);
-uint32_t c_trac_delete(trac_machine *, const void *, size_t);
-uint32_t c_trac_delete_all(trac_machine *);
-uint32_t c_trac_set_meta(trac_machine *, uint32_t);
-int c_trac_find_form(const trac_machine *, const void *, size_t, trac_form *);
-size_t c_trac_save(const trac_machine *, void *, size_t);
-uint32_t c_trac_load(trac_machine *, const void *, size_t);
-size_t c_trac_function_count(void);
-uint32_t c_trac_function(size_t, trac_function_facts *);
-size_t c_trac_function_text(size_t, uint32_t, void *, size_t);
+enum { UNITS_OF_MEMORY = 1 << 17, TURNS = 200, MEMORIES = 12, PIECE = 4096, PLACES = 12, ALL_MEMORIES = 201 };
 
-enum { CHOICES = 5, LONGEST = 1 << 16, UNITS_OF_MEMORY = 1 << 17, LINES = 1 << 16, TURNS = 200, STEP_OF_MEMORY = 264 };
+static _Alignas(16) uint64_t memory[2][UNITS_OF_MEMORY];
+uint8_t script[LONGEST], lines[2][LINES];
 
-static uint64_t memory[2][UNITS_OF_MEMORY];
-static uint8_t script[LONGEST], lines[2][LINES];
-
-static void must(int holds, const char *what) {
+void must(int holds, const char *what) {
     if (!holds) {
         fprintf(stderr, "the engines differ in %s: %s\n", what, (const char *)script + CHOICES);
         abort();
     }
+}
+
+static uint32_t choice;
+
+/* Makes the choices those of this script. */
+static void begin_choices(size_t count) {
+    choice = 2166136261u;
+    for (size_t i = 0; i < count; i++)
+        choice = (choice ^ script[i]) * 16777619u;
+}
+
+uint32_t choices_so_far(void) { return choice; }
+
+void choose_again(uint32_t from) { choice = from; }
+
+/* A number below `most`, which the script chooses. */
+uint32_t chosen(uint32_t most) {
+    choice = choice * 1664525u + 1013904223u;
+    return (choice >> 8) % most;
+}
+
+uint32_t chosen_gap(void) {
+    uint32_t ordinal = 1;
+    for (uint32_t digits = chosen(9); digits > 0; digits--)
+        ordinal = ordinal * 10 - chosen(2);
+    return chosen(3) ? 256 + chosen(3) : 255u + (ordinal < 16777220u ? ordinal : 16777216u + chosen(2));
 }
 
 /* What trac_check reports with so much memory. Gives whether that was enough. */
@@ -59,12 +59,15 @@ static int check_both_in(size_t length, size_t count, size_t cells, uint64_t ste
     return a.fate != TRAC_NO_MEMORY;
 }
 
-/* What trac_check reports; for some scripts with more and more memory, so that each list finds too little of it once. */
+/* What trac_check reports; for some scripts also with too little memory for one list or another. Memory is used in
+ * pieces of 4096 bytes. */
 static void check_both(size_t count, size_t cells, uint64_t steps) {
-    size_t length = script[2] < 30 ? script[3] % 128u : sizeof memory[0];
-    while (length < sizeof memory[0] && !check_both_in(length, count, cells, steps))
-        length += STEP_OF_MEMORY + length / 64;
-    check_both_in(sizeof memory[0], count, cells, steps);
+    const int is_enough = check_both_in(sizeof memory[0], count, cells, steps);
+    if (!is_enough || chosen(2))
+        return;
+    size_t length = chosen(2) ? PIECE : chosen(2 * PIECE);
+    for (int i = 0; i < MEMORIES && !check_both_in(length, count, cells, steps); i++)
+        length += PIECE;
 }
 
 /* A run in a block that is known to be zero. */
@@ -76,6 +79,40 @@ static void run_zeroed_both(size_t count, size_t cells, uint64_t steps) {
     const trac_report b = c_trac_run_zeroed(in_c.block, cells, steps, script + CHOICES, count - CHOICES, in_c.output,
                                             MOST_OUTPUT);
     must(is_same(&a, &b), "trac_run_zeroed");
+}
+
+/* What both show of a form, which isn't always the one that was found last. */
+static void see_form(const trac_form *a, const trac_form *b, size_t room) {
+    memset(lines, 0, sizeof lines);
+    uint32_t *const codes = (uint32_t *)(void *)lines[0], *const others = (uint32_t *)(void *)lines[1];
+    must(trac_form_pointer(a) == c_trac_form_pointer(b), "the pointer of a form");
+    switch (chosen(3)) {
+    case 0:
+        must(trac_form_name(a, lines[0], room) == c_trac_form_name(b, lines[1], room), "the length of a name");
+        break;
+    case 1:
+        must(trac_form_text(a, lines[0], room) == c_trac_form_text(b, lines[1], room), "the length of a text");
+        break;
+    default:
+        must(trac_form_codes(a, codes, room) == c_trac_form_codes(b, others, room), "the length of a form");
+    }
+    must(memcmp(lines[0], lines[1], sizeof lines[0]) == 0, "a form");
+}
+
+/* Some of the forms, in any order. */
+static void see_places(void) {
+    trac_form a[PLACES], b[PLACES];
+    trac_form one = TRAC_NO_FORM, other = TRAC_NO_FORM;
+    size_t count = 0;
+    while (count < PLACES && trac_next_form(&proved.machine, &one) && c_trac_next_form(&in_c.machine, &other)) {
+        a[count] = one;
+        b[count++] = other;
+    }
+    for (uint32_t i = 0; i < 4 && count > 0; i++) {
+        const uint32_t which = chosen((uint32_t)count);
+        see_form(&a[which], &b[which], chosen(2) ? chosen(80) : 4000);
+        must(trac_next_form(&proved.machine, &a[which]) == c_trac_next_form(&in_c.machine, &b[which]), "the next form");
+    }
 }
 
 /* The texts of all forms, and the arguments of the innermost call. */
@@ -116,18 +153,12 @@ static void again_both(size_t count, size_t cells, uint64_t steps) {
         must(turn_both(script + at, count - at, MOST_OUTPUT, 1, script[3] % 50u + 1, &told), "a turn");
         at += told.consumed;
         see_both(script[4]);
+        see_places();
         if (turn % 8 == 7 || told.fate == TRAC_STEPS) {
             must(trac_take_peak(&proved.machine) == c_trac_take_peak(&in_c.machine), "the peak");
             must(trac_again(&proved.machine, steps) == c_trac_again(&in_c.machine, steps), "trac_again");
         }
     }
-}
-
-/* A number below `most`, which the script chooses. */
-static uint32_t chosen(uint32_t most) {
-    static uint32_t state;
-    state = (state ^ script[4]) * 1664525u + 1013904223u;
-    return (state >> 8) % most;
 }
 
 /* A part of the script, as a name or as a body. */
@@ -147,44 +178,21 @@ static size_t name_of_form(size_t count, uint8_t *name) {
         must(trac_next_form(&proved.machine, &form), "the forms");
     if (forms > 0 && (length = trac_form_name(&form, name, MOST_OUTPUT)) <= MOST_OUTPUT)
         return length;
-    const uint8_t *part = part_of_script(count, 5, &length);
+    const uint8_t *part = part_of_script(count, chosen(2) ? 5 : 90, &length);
     memcpy(name, part, length);
     return length;
 }
 
-/* A form of codes, now and then with one that is none, or with a pointer that is too great. */
+/* A form of codes, with gaps here and there. */
 static void define_both(size_t count, const uint8_t *name, size_t length) {
     static uint32_t codes[400];
     size_t items;
     const uint8_t *body = part_of_script(count, 400, &items);
     for (size_t i = 0; i < items; i++)
-        codes[i] = body[i] % 7 == 0 ? 256 + chosen(3) : body[i];
-    if (items > 0 && chosen(4) == 0)
-        codes[chosen((uint32_t)items)] = chosen(2) ? 255u + 16777216u : 256u + 16777216u;
+        codes[i] = body[i] % 7 == 0 ? chosen_gap() : body[i];
     const size_t pointer = chosen((uint32_t)items + 2);
     must(trac_define(&proved.machine, name, length, codes, items, pointer) ==
              c_trac_define(&in_c.machine, name, length, codes, items, pointer), "trac_define");
-}
-
-/* The images of the forms, which another machine takes, or not: cut, changed, or into few cells. */
-static void save_both(size_t room) {
-    static side others[2];
-    const size_t length = trac_save(&proved.machine, lines[0], LINES), cells = chosen(3) ? MOST_CELLS : chosen(600);
-    must(c_trac_save(&in_c.machine, lines[1], LINES) == length, "the length of an image");
-    must(length > LINES || memcmp(lines[0], lines[1], length) == 0, "an image");
-    must(trac_save(&proved.machine, lines[1], room) == length, "the length of an image that doesn't fit");
-    memcpy(lines[1], lines[0], LINES);
-    size_t given = chosen(4) ? length : chosen((uint32_t)length);
-    if (given > LINES || given == 0)
-        return;
-    if (chosen(3) == 0)
-        lines[1][chosen((uint32_t)given)] ^= 1u << chosen(8);
-    must(trac_open(&others[0].machine, others[0].block, cells, 9) == 0 &&
-             c_trac_open(&others[1].machine, others[1].block, cells, 9) == 0, "trac_open");
-    must(trac_load(&others[0].machine, lines[1], given) == c_trac_load(&others[1].machine, lines[1], given),
-         "trac_load");
-    must(trac_form_count(&others[0].machine) == c_trac_form_count(&others[1].machine), "the forms of an image");
-    must(trac_load(&proved.machine, lines[1], given) == c_trac_load(&in_c.machine, lines[1], given), "trac_load");
 }
 
 /* A change of the forms from outside. */
@@ -209,7 +217,7 @@ static void change_both(size_t count) {
             must(trac_delete_all(&proved.machine) == c_trac_delete_all(&in_c.machine), "trac_delete_all");
         break;
     case 3:
-        save_both(script[3]);
+        save_both(&proved.machine, &in_c.machine);
         break;
     case 4:
     case 5: {
@@ -221,6 +229,7 @@ static void change_both(size_t count) {
     default:
         define_both(count, name, length);
     }
+    see_places();
     must(trac_moved(&proved.machine, proved.block) == c_trac_moved(&in_c.machine, in_c.block), "trac_moved");
 }
 
@@ -294,10 +303,23 @@ static void run_with_both(size_t count, size_t cells, uint64_t steps) {
     must(memcmp(&a, &b, sizeof a) == 0 && one.at == other.at && one.written == other.written, "trac_run_with");
 }
 
+/* Some forms from outside, and some steps of the script. Gives how far it was read. */
+static size_t begin_both(size_t count) {
+    trac_report told = {TRAC_GOING, 0, 0, 0, 0, 0};
+    char name[12];
+    for (uint32_t left = chosen(3) ? chosen(3) : chosen(300); left > 0 && count > CHOICES; left--)
+        define_both(count, (const uint8_t *)name, (size_t)sprintf(name, "f%u", left));
+    if (chosen(2))
+        must(turn_both(script + CHOICES, count - CHOICES, MOST_OUTPUT, 1, chosen(3000), &told),
+             "a turn before a trace");
+    return CHOICES + told.consumed;
+}
+
 /* The lines of steps, calls or forms, with little memory and room for lines now and then. */
 static void trace_both(size_t count, size_t cells, uint64_t steps) {
     if (!open_zeroed_both(cells, steps))
         return;
+    size_t at = begin_both(count);
     trac_trace a, b;
     memset(&a, 0, sizeof a);
     a.from = script[4] % 3u + 1, a.to = script[4] > 200 ? 99 : UINT64_MAX;
@@ -305,10 +327,11 @@ static void trace_both(size_t count, size_t cells, uint64_t steps) {
     a.calls = script[3] % 3u == 0, a.forms = script[4] % 3u == 0;
     b = a;
     const size_t room = script[3] < 30 ? script[3] * 10u : LINES;
-    const size_t length = script[2] < 20 ? script[2] * 400u : sizeof memory[0];
+    size_t length = script[2] < 150 ? PIECE * (1 + chosen(1 + chosen(6))) + chosen(2) * 16 : sizeof memory[0];
     trac_report told = {TRAC_GOING, 0, 0, 0, 0, 0};
-    size_t at = CHOICES;
-    for (int step = 0; step < TURNS && told.fate == TRAC_GOING; step++) {
+    for (int step = 0; step < TURNS && (told.fate == TRAC_GOING || told.fate == TRAC_NO_MEMORY); step++) {
+        length = told.fate == TRAC_NO_MEMORY ? length + PIECE : length;
+        length = length < sizeof memory[0] ? length : sizeof memory[0];
         const int ended = script[2] % 8u == 7 ? 2 : 1;
         told = trac_trace_step(&proved.machine, &a, script + at, count - at, ended, proved.output, MOST_OUTPUT,
                                memory[0], length, lines[0], room);
@@ -337,27 +360,54 @@ static void functions_of_both(void) {
     }
 }
 
+/* As many cells as the script chooses, or some more or fewer than its peak. */
+static size_t chosen_cells(uint32_t peak) {
+    const size_t more = peak + chosen(60), less = chosen(chosen(2) ? 30 : peak + 60);
+    const size_t cells = script[0] < 200 ? script[0] * CELLS + script[4] % 4u
+                       : script[0] < 220 ? (more > less ? more - less : 0)
+                                         : MOST_CELLS - script[4] % 4u;
+    return cells < MOST_CELLS ? cells : MOST_CELLS;
+}
+
+static void run_script(size_t count) {
+    begin_choices(count);
+    LLVMFuzzerTestOneInput(script, count);
+    const size_t cells = chosen_cells(tight_both(count));
+    const uint64_t steps = script[1] * STEPS;
+    if (script[2] == ALL_MEMORIES)
+        memories_both(count);
+    check_both(count, cells, steps);
+    run_zeroed_both(count, cells, steps);
+    again_both(count, cells, steps);
+    trace_both(count, cells, steps);
+    if (count > CHOICES) {
+        host_both(count, cells, steps);
+        run_with_both(count, cells, steps);
+    }
+    exact_both(count);
+}
+
+#ifdef CHOOSING
+long new_edges(void);
+#endif
+
 int main(void) {
     uint8_t length[4];
     long scripts = 0;
     functions_of_both();
+    refused_both();
     while (fread(length, 1, 4, stdin) == 4) {
         const size_t count = length[0] | (size_t)length[1] << 8;
         memset(script, 0, CHOICES + 1);
         if (fread(script, 1, count, stdin) != count)
             return 1;
-        LLVMFuzzerTestOneInput(script, count);
-        const size_t cells = script[0] * CELLS;
-        const uint64_t steps = script[1] * STEPS;
-        check_both(count, cells, steps);
-        run_zeroed_both(count, cells, steps);
-        again_both(count, cells, steps);
-        trace_both(count, cells, steps);
-        if (count > CHOICES) {
-            host_both(count, cells, steps);
-            run_with_both(count, cells, steps);
-        }
+        if (count >= CHOICES)
+            run_script(count);
         scripts++;
+#ifdef CHOOSING
+        printf("%ld\n", new_edges());
+        fflush(stdout);
+#endif
     }
     printf("%ld\n", scripts);
     return 0;

@@ -28,6 +28,37 @@ uint32_t c_trac_rule(const trac_machine *);
 size_t c_trac_part(const trac_machine *, uint32_t);
 uint32_t c_trac_meta(const trac_machine *);
 uint32_t c_trac_awaits(const trac_machine *);
+trac_report c_trac_run_zeroed(trac_cell *, size_t, uint64_t, const void *, size_t, void *, size_t);
+trac_report c_trac_check(trac_cell *, size_t, uint64_t, const void *, size_t, void *, size_t, void *, size_t);
+uint32_t c_trac_open_zeroed(trac_machine *, trac_cell *, size_t, uint64_t);
+uint32_t c_trac_again(trac_machine *, uint64_t);
+uint32_t c_trac_take_peak(trac_machine *);
+size_t c_trac_form_text(const trac_form *, void *, size_t);
+size_t c_trac_argument_count(const trac_machine *);
+size_t c_trac_argument(const trac_machine *, size_t, void *, size_t);
+trac_report c_trac_trace_step(trac_machine *, trac_trace *, const void *, size_t, int, void *, size_t, void *, size_t,
+                              void *, size_t);
+trac_report c_trac_run_with(trac_cell *, size_t, uint64_t, void *, size_t, trac_reader, trac_writer, void *);
+uint32_t c_trac_moved(trac_machine *, trac_cell *);
+uint32_t c_trac_stop_at_unknown(trac_machine *, int);
+trac_report c_trac_answer(trac_machine *, const void *, size_t, uint32_t);
+size_t c_trac_printed(const trac_machine *, size_t, void *, size_t);
+trac_report c_trac_skip_print(trac_machine *);
+uint32_t c_trac_define(trac_machine *, const void *, size_t, const uint32_t *, size_t, size_t);
+uint32_t c_trac_define_text(trac_machine *, const void *, size_t, const void *, size_t);
+uint32_t c_trac_delete(trac_machine *, const void *, size_t);
+uint32_t c_trac_delete_all(trac_machine *);
+uint32_t c_trac_set_meta(trac_machine *, uint32_t);
+int c_trac_find_form(const trac_machine *, const void *, size_t, trac_form *);
+size_t c_trac_save(const trac_machine *, void *, size_t);
+uint32_t c_trac_load(trac_machine *, const void *, size_t);
+size_t c_trac_function_count(void);
+uint32_t c_trac_function(size_t, trac_function_facts *);
+size_t c_trac_function_text(size_t, uint32_t, void *, size_t);
+int c_trac_abi(uint32_t, size_t, size_t);
+const char *c_trac_version(void);
+const char *c_trac_fate_name(uint32_t);
+const char *c_trac_rule_name(uint32_t);
 
 #ifndef MOST_CELLS
 #define MOST_CELLS 1024

@@ -36,7 +36,7 @@ const IDENTITY: Facts = Facts {
     group: Group::Comparing,
     traits: Traits {
         uses: Some(1),
-        ..PLAIN
+        ..NO_TRAITS
     },
 };
 
@@ -45,7 +45,7 @@ const IDENTITY: Facts = Facts {
     (f'{LANGUAGE}/specs/Function.antt', '    ∷ (codes "eq"', '    ∷ (codes "id", Identity)\n'),
     (f'{LANGUAGE}/specs/Table.antt', 'name_of function.Equal', 'name_of function.Identity = codes "id"\n'),
     (f'{LANGUAGE}/specs/Table.antt', 'traits function.Equal',
-     'traits function.Identity = record plain { uses = Some 1 }\n'),
+     'traits function.Identity = record no_traits { uses = Some 1 }\n'),
     (f'{LANGUAGE}/proofs/Named.antt', 'named function.Equal', 'named function.Identity = refl\n'),
     (f'{LANGUAGE}/specs/Meaning.antt', f'{VARIANTS}.{{Equal', f'{VARIANTS}.{{Identity}}\n'),
     (f'{LANGUAGE}/specs/Meaning.antt', 'meaning_of Equal',

@@ -9,7 +9,7 @@ LONG = 'a name that is longer than any name of a form in an example ' * 2
 NAMES = ['A', 'l', 'F', 'name', 'N', '', 'B1', 'longer name', 'AB', 'Ab', 'x',
          *(LONG[:length] + end for length in (31, 70) for end in ('', 'b'))]
 PARTS = ['', 'a', '-', 'ab', 'b', '1', '2', '0', 'X']
-LENGTHS = (0, 1, 2, 3, 5, 9, 10, 17, 18, 19, 20, 21, 38, 39, 40, 41, 60)
+LENGTHS = (*range(46), 60, 77, 100)
 EDGES = [2**63, 2**63 - 1, 2**64, 2**64 - 1, 10**18, 10**19, 2**127, 2**127 - 1, 2**128 - 1, 10**38]
 DEEPEST, LONGEST = 4, 65000
 
@@ -24,12 +24,22 @@ class Grammar:
     def digits(self, letters, lengths):
         return ''.join(self.pick(letters) for _ in range(self.pick(lengths)))
 
+    def name(self):
+        """A name of a form: one of a few, one of `forms`, or one that differs from another of its length in a place."""
+        if self.random.random() < .6:
+            return self.pick(NAMES)
+        if self.random.random() < .5:
+            return f'f{self.pick(range(200))}'
+        letters = list(LONG[:self.pick((4, 7, 8, 9, 15, 16, 17, 31, 32, 33, 64, 66, 90))])
+        letters[self.pick(range(len(letters)))] = self.pick('ab')
+        return ''.join(letters)
+
     def number(self):
         digits = str(self.pick(EDGES)) if self.random.random() < .1 else self.digits('0123456789', LENGTHS)
-        return self.pick(('', '', 'ab', 'Apples', '+', '-')) + self.pick(('', '-', '-', '+')) + digits
+        return self.pick(('', '', 'ab', 'Apples', '+', '-', LONG[:40])) + self.pick(('', '-', '-', '+')) + digits
 
     def bits(self):
-        return self.pick(('', 'x', '9')) + self.digits('01234567', (0, 1, 2, 3, 8, 21, 22, 43, 60))
+        return self.pick(('', 'x', '9')) + self.digits('01234567', (*range(24), 42, 43, 44, 60, 130))
 
     def text(self, depth):
         made = (lambda: self.digits('ab-, \n\t', range(12)), lambda: self.pick('ab') * self.pick((1, 3, 9, 30, 300)),
@@ -53,7 +63,7 @@ class Grammar:
         some = [self.argument(depth) for _ in range(count)]
         if name == 'cn' and some:
             some[0] = self.pick(('1', '-1', '3', '-3', '0', '99', '-99', '12345678901234567890', self.number()))
-        return [self.pick(NAMES), *some] if name not in ('ps', 'eq', 'rs', 'rc', 'cm', 'hl', 'ln', 'da') else some
+        return [self.name(), *some] if name not in ('ps', 'eq', 'rs', 'rc', 'cm', 'hl', 'ln', 'da') else some
 
     def call(self, depth=0):
         [name] = self.random.choices(list(FUNCTIONS), list(FUNCTIONS.values()))
@@ -63,12 +73,18 @@ class Grammar:
     def forms(self):
         """Many forms, which are found, deleted and defined again."""
         count = self.pick((9, 12, 20, 40, 90, 200))
-        made = ''.join(f'#(ds,f{i % 97},{self.pick(("v", "a-b", "", "xyz" * 5))})' for i in range(count))
+        named = self.pick((lambda i: f'f{i % 97}', lambda i: f'f{i % 97}', lambda i: self.name()))
+        made = ''.join(f'#(ds,{named(i)},{self.pick(("v", "a-b", "", "xyz" * 5))})' for i in range(count))
         for _ in range(self.pick(range(60))):
             one, other = (self.pick(range(count + 9)) for _ in range(2))
             made += self.pick((f'#(cl,f{one})', f'#(dd,f{one},f{other})', f'#(ds,f{one},w)', f'#(ss,f{one},-,x)',
                                '#(ln,;)', f'#(cs,f{one})'))
         return made
+
+    def many_gaps(self):
+        """A form with gaps of ordinals up to some thousand, which is displayed, and called with fewer arguments."""
+        commas = ',' * self.pick((9, 10, 99, 100, 101, 999, 1000, 1001, 9999, 10000, 30000))
+        return f"#(ds,F,{self.text(1)}-b)#(ss,F{commas}b,-)#(pf,F)#(cl,F,{self.text(1)})#(cs,F)#(pf,F)"
 
     def gaps(self):
         """A form with gaps, which is called and taken apart."""
@@ -80,7 +96,7 @@ class Grammar:
         """The bytes of a script, sometimes with wrong bytes."""
         made = ''.join(self.pick((self.call, self.call, self.call, lambda: self.text(0)))()
                        + self.pick(('', '', "'", "'", '\n')) for _ in range(self.pick((1, 2, 4, 8, 16))))
-        begin = self.pick((self.forms, self.gaps, str, str, str, str, str))()
+        begin = self.pick((self.forms, self.gaps, self.many_gaps, *(str,) * 6))()
         given = bytearray((begin + made).encode('latin-1'))
         if given and self.random.random() < .08:
             for _ in range(3):
@@ -99,7 +115,7 @@ def framed(given):
     return pack('<I', len(given)) + given
 
 
-def made(seed, count):
-    """A number of scripts."""
+def made(seed):
+    """The script of a seed, after its five choices."""
     grammar = Grammar(seed)
-    return [(grammar.choices() + grammar.script())[:LONGEST] for _ in range(count)]
+    return (grammar.choices() + grammar.script())[:LONGEST]

@@ -8,7 +8,8 @@ import tempfile
 import unittest
 
 from trac import PROGRAM, TOP
-from bench import jobs, repeated_jobs  # after trac, which says where it is
+import targets  # after trac, which says where it is
+from bench import compared_jobs, jobs, repeated_jobs
 
 STRICT = ['-std=c11', '-O2', '-Wall', '-Werror']
 CELLS, STEPS = '65536', '1000000'
@@ -30,6 +31,19 @@ class Processors(unittest.TestCase):
                                                 env={**os.environ, 'REPORT': '1'}, check=True)
                         self.assertEqual(theirs.stdout, job.printed, job.name)
                         self.assertEqual((theirs.stdout, theirs.stderr), (ours.stdout, ours.stderr), job.name)
+
+
+class Targets(unittest.TestCase):
+    def test_each_is_of_a_job(self):
+        self.assertLessEqual({*targets.BESIDE_FAST}, {job.name for job in compared_jobs()})
+
+    def test_a_row_has_the_ratio(self):
+        self.assertEqual(targets.row('a step', 3, 2.4, ' ns'), ('a step', '3.00 ns', '2.4 ns', '1.25'))
+
+    def test_it_counts_without_the_start(self):
+        words = targets.bench.limits(PROGRAM)
+        few, many = (targets.over_start(words, b"#(ad,1,2)'" * count) for count in (1, 10))
+        self.assertTrue(8 < many / few < 12, (few, many))
 
 
 class WorstScripts(unittest.TestCase):

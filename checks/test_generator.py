@@ -71,7 +71,7 @@ class Translation:
         with contextlib.redirect_stdout(io.StringIO()) as said:
             units.print_all(self.pieces, module.table(), module.rows())
         self.text = '\n'.join([said.getvalue(), *map(CALLED.format, names)])
-        for shared in ('tables', 'has_address', 'no_address', 'table64'):
+        for shared in ('tables', 'is_in_row', 'has_address', 'no_address', 'table64'):
             self.text = f'#undef {shared}\n#define {shared} {name}_{shared}\n{self.text}'
 
 

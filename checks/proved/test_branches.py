@@ -1,58 +1,62 @@
-"""Which branches of the engine in C are taken in runs that are compared with the proved library: scripts from a
-grammar, the cases and the examples, in one run, in turns, by trac_check, with functions of the host, with forms from
-outside and their images, and by the rest of trac.h. All results are the same."""
-import glob
+"""Which branches of the engine in C are taken in runs that are compared with the proved library: known scripts, changed
+ones and those of a grammar, in one run, in turns, in little room, by trac_check, with functions of the host, with forms
+from outside and their images, and by the rest of trac.h. All results are the same."""
 import os
 import re
 import subprocess
 import tempfile
 import unittest
 
-from scripts import framed, made
+from covering_scripts import covering_scripts
+from scripts import framed
 from trac import TOP
+from untaken import LISTED, contradictions, listed, page, untaken
 
 CHECKS = os.path.join(TOP, 'checks')
 HEADERS = os.path.join(TOP, 'hosts', 'c')
 PROVED = os.environ.get('PROVED', os.path.join(TOP, 'dist', 'libtrac.a'))
-SEED, COUNT = 1, int(os.environ.get('COUNT', 3000))
+COUNT = int(os.environ.get('COUNT', 100))
+COVERING = ('covering.c', 'tight.c', 'memories.c', 'images_of_both.c', 'refused_by_both.c',
+            os.path.join('fuzz', 'engines.c'))
+SIZES = '-DCELLS=32u', '-DSTEPS=64u', '-DMOST_CELLS=8192'
 # The least percentage of the branches; the percentage that is taken is printed.
-LEAST = 60
+LEAST = 71
 # Each branch counts once, also where it is a part of several functions.
 ONCE = '-D__OPTIMIZE_SIZE__'
-AMPLE = b'\xff\xff\x07\x1f\x0f'
-
-
-def scripts():
-    """Those of the grammar, the cases and the examples."""
-    found = made(SEED, COUNT)
-    for name in glob.glob(os.path.join(TOP, 'examples', '**', '*.trac'), recursive=True):
-        with open(name, 'rb') as file:
-            found.append(AMPLE + file.read())
-    for name in glob.glob(os.path.join(TOP, 'conformance', '*.cases')):
-        with open(name, 'rb') as file:
-            found += [AMPLE + one for one in re.findall(rb'^input: (.*)$', file.read(), re.MULTILINE)]
-    return [one for one in found if len(one) < 1 << 16]
 
 
 class Branches(unittest.TestCase):
     def run_in(self, *words, **more):
         return subprocess.run(words, cwd=self.folder, check=True, capture_output=True, **more).stdout
 
+    def compare(self):
+        """Runs the scripts in both engines, and counts the branches. Gives how many scripts."""
+        self.run_in(os.path.join(CHECKS, 'engines'), 'gcc', os.path.join(self.folder, 'in_c.o'), '-O0', '-w',
+                    '--coverage', ONCE)
+        self.run_in('gcc', '-std=c11', '-O1', '-w', '--coverage', *SIZES, '-I', HEADERS, '-I', CHECKS, '-o', 'covering',
+                    *(os.path.join(CHECKS, name) for name in COVERING), 'in_c.o', PROVED)
+        given = covering_scripts(COUNT)
+        said = self.run_in('./covering', input=b''.join(map(framed, given)), timeout=900)
+        self.assertEqual(int(said), len(given))
+        return len(given)
+
     def test_what_is_taken(self):
         with tempfile.TemporaryDirectory() as self.folder:
-            self.run_in(os.path.join(CHECKS, 'engines'), 'gcc', os.path.join(self.folder, 'in_c.o'), '-O0', '-w',
-                        '--coverage', ONCE)
-            self.run_in('gcc', '-std=c11', '-O1', '-w', '--coverage', '-DCELLS=32u', '-DSTEPS=64u', '-DMOST_CELLS=8192',
-                        '-I', HEADERS, '-I', CHECKS, '-o', 'covering', os.path.join(CHECKS, 'covering.c'),
-                        os.path.join(CHECKS, 'fuzz', 'engines.c'), 'in_c.o', PROVED)
-            given = scripts()
-            said = self.run_in('./covering', input=b''.join(map(framed, given)), timeout=600)
-            self.assertEqual(int(said), len(given))
+            scripts = self.compare()
             told = self.run_in('gcov', '-b', '-n', 'in_c.o').decode()
+            found = untaken(self.folder)
+            self.assertEqual(contradictions(self.folder), [])
         lines, taken, branches = re.search(
             r"trac_engine\.c'\nLines executed:([\d.]+)%.*\n.*\nTaken at least once:([\d.]+)% of (\d+)", told).groups()
-        print(f'{len(given)} scripts: {lines} percent of the lines, {taken} percent of {branches} branches')
+        print(f'{scripts} scripts: {lines} percent of the lines, {taken} percent of {branches} branches')
+        if os.environ.get('WRITE'):
+            with open(LISTED, 'w', encoding='utf-8') as file:
+                file.write(page(found))
         self.assertGreater(float(taken), LEAST)
+        known = listed()
+        for function, (_, kinds) in found.items():
+            with self.subTest(function=function):
+                self.assertLessEqual(kinds.total(), known.get(function, 0), kinds)
 
 
 if __name__ == '__main__':

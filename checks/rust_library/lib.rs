@@ -8,6 +8,8 @@ extern crate trac_t64 as trac_devices;
 extern crate trac_t64 as trac_image;
 extern crate trac_t64 as trac_language;
 
+mod digits;
+
 /// What the exports take of `trac_space`, of which the crate hands on less.
 mod cells {
     pub(crate) use trac_t64::{Cell, Mode};

@@ -14,30 +14,41 @@ static void learn(known_function *of, size_t which) {
     (void)trac_function(which, &of->facts);
 }
 
-const known_function *function_at(size_t which) {
-    /* The engine's answers, which are fetched once, because a run has many calls. */
+/* The functions; none if there is no memory for them. The engine's answers are fetched once, because a run has many
+ * calls. */
+static const known_function *functions(size_t *count) {
     static known_function *known;
-    static size_t count;
-    const size_t all = known ? count : trac_function_count();
+    static size_t learned;
+    const size_t all = known ? learned : trac_function_count();
     if (!known && (known = malloc(all * sizeof *known)))
-        while (count < all)
-            learn(&known[count], count), count++;
+        while (learned < all)
+            learn(&known[learned], learned), learned++;
+    *count = learned;
+    return known;
+}
+
+const known_function *function_at(size_t which) {
+    size_t count;
+    const known_function *const known = functions(&count);
     return which < count ? &known[which] : NULL;
 }
 
-/* Whether a name is this one, in letters of either case. */
+/* Whether a name is this one, which is in letters of lower case. */
 static int is_name(const uint8_t *name, size_t length, const char *of) {
     size_t i = 0;
-    while (i < length && of[i] && small(name[i]) == small((uint8_t)of[i]))
+    while (i < length && of[i] && small(name[i]) == (uint8_t)of[i])
         i++;
     return i == length && !of[i];
 }
 
 const known_function *function_named(const uint8_t *name, size_t length) {
-    const known_function *function = function_at(0);
-    for (size_t which = 1; function && !is_name(name, length, function->name); which++)
-        function = function_at(which);
-    return function;
+    size_t count;
+    const known_function *const known = functions(&count);
+    const uint8_t first = length ? small(name[0]) : 0;
+    for (size_t which = 0; which < count; which++)
+        if ((uint8_t)known[which].name[0] == first && is_name(name, length, known[which].name))
+            return &known[which];
+    return NULL;
 }
 
 void begin_watch(watch *of) { of->lines.length = of->count = 0; }

@@ -48,15 +48,30 @@ static void take_back(text *of) {
         of->length -= length;
 }
 
+/* The bytes that may have to be changed: those that take back a character, end a line, or begin a typographic
+ * apostrophe. */
+static const uint8_t may_change[256] = {['\r'] = 1, [BACKSPACE] = 1, [RUBOUT] = 1, [0xC2] = 1, [0xE2] = 1};
+
+/* How many bytes come before the next that may have to be changed. */
+static size_t length_unchanged(const uint8_t *at, size_t left) {
+    size_t length = 0;
+    while (length < left && !may_change[at[length]])
+        length++;
+    return length;
+}
+
 /* Adds the characters of a listing, with one kind of line ends and of apostrophes, and without the characters that were
  * taken back. */
 static void add_plain(text *to, const text *from, findings *found) {
     const int has_apostrophe = from->length && memchr(from->bytes, '\'', from->length) != NULL;
     for (size_t i = 0, length; i < from->length; i += length) {
         const uint8_t *const at = from->bytes + i;
+        const size_t unchanged = length_unchanged(at, from->length - i);
         const size_t quote = quote_length(at, from->length - i);
-        length = quote ? quote : 1;
-        if (*at == RUBOUT || *at == BACKSPACE) {
+        length = unchanged ? unchanged : quote ? quote : 1;
+        if (unchanged) {
+            add_bytes(to, at, unchanged);
+        } else if (*at == RUBOUT || *at == BACKSPACE) {
             take_back(to);
             found->rubouts++;
         } else if (*at == '\r') {
@@ -113,9 +128,15 @@ static called call_at(const text *script, size_t at) {
 
 /* Moves past the next `#(`. Gives 0 if there is none. */
 static size_t next_call(const text *script, size_t from) {
-    while (from + 1 < script->length && (script->bytes[from] != '#' || script->bytes[from + 1] != '('))
-        from++;
-    return from + 1 < script->length ? from + 2 : 0;
+    while (from + 1 < script->length) {
+        const void *const sign = memchr(script->bytes + from, '#', script->length - 1 - from);
+        if (!sign)
+            return 0;
+        from = (size_t)((const uint8_t *)sign - script->bytes) + 1;
+        if (script->bytes[from] == '(')
+            return from + 1;
+    }
+    return 0;
 }
 
 static void add_name(text *names, const uint8_t *bytes, size_t length) {
@@ -145,7 +166,7 @@ static void note_call(findings *found, const called *of, size_t line, const text
         found->small += (size_t)(of->function && of->name[i] >= 'a' && of->name[i] <= 'z');
     }
     for (size_t i = 0; i < LEFT_OUT; i++)
-        if (of->length == 2 && !strncasecmp((const char *)of->name, left_out[i].name, 2) &&
+        if (of->length == 2 && !of->function && !strncasecmp((const char *)of->name, left_out[i].name, 2) &&
             !has_name(names, of->name, of->length)) {
             found->first_line[i] = found->calls[i]++ ? found->first_line[i] : line;
         }
@@ -171,11 +192,12 @@ static void add_called(text *to, const text *script, const text *names, findings
 
 /* Counts the lines, and the lines that begin with a number. */
 static void count_lines(findings *found, const text *script) {
-    for (size_t i = 0; i < script->length; i++)
-        if (!i || script->bytes[i - 1] == '\n') {
-            found->lines++;
-            found->numbered += script->bytes[i] >= '0' && script->bytes[i] <= '9';
-        }
+    for (size_t at = 0; at < script->length;) {
+        found->lines++;
+        found->numbered += script->bytes[at] >= '0' && script->bytes[at] <= '9';
+        const void *const end = memchr(script->bytes + at, '\n', script->length - at);
+        at = end ? (size_t)((const uint8_t *)end - script->bytes) + 1 : script->length;
+    }
 }
 
 /* Adds a listing as a script for this processor, and notes what was changed and what wasn't. */

@@ -47,6 +47,14 @@ static size_t length_shown(const uint8_t *from, size_t left) {
     return is_control(ahead) || turns_direction(ahead) || ahead[0] == '\\' ? 0 : length_of_character(ahead);
 }
 
+/* How many characters at the front are ASCII and can be shown as they are. */
+static size_t length_plain(const uint8_t *from, size_t left) {
+    size_t length = 0;
+    while (length < left && from[length] >= ' ' && from[length] < 127 && from[length] != '\\')
+        length++;
+    return length;
+}
+
 static void add_escape(text *to, uint8_t byte) {
     static const char plain[] = "\t\n\r\\", letters[] = "tnr\\";
     const char *const found = byte ? strchr(plain, byte) : NULL;
@@ -61,7 +69,8 @@ static void add_escape(text *to, uint8_t byte) {
 void add_shown(text *to, const void *from, size_t length) {
     const uint8_t *at = (const uint8_t *)from;
     while (length) {
-        const size_t shown = length_shown(at, length), passed = shown ? shown : 1;
+        const size_t plain = length_plain(at, length), shown = plain ? plain : length_shown(at, length);
+        const size_t passed = shown ? shown : 1;
         if (shown)
             add_bytes(to, at, shown);
         else

@@ -4,7 +4,8 @@ ghost use Rattle.std.specs.Prelude.{IsSome};
 ghost use Rattle.trac_devices.specs.Slices.{slice_input, stream_in};
 ghost use Rattle.trac_c.specs.Held.{listed, buffer_code};
 
-use crate::filling::put_characters;
+use crate::filling::{MOST_DIGITS, put_characters, put_digits};
+use itoa::Buffer;
 use trac_core::{Characters, Neutral, Next, Sink, SinkFailed, SliceSource, Source};
 
 /// A source over the bytes that a turn was given. It never fails.
@@ -130,6 +131,15 @@ impl Sink for OverflowSink<'_> {
         for i in count..text.len() {
             self.put(text.at(i))?;
         }
+        Ok(())
+    }
+
+    fn put_number(&mut self, number: u32) -> Result<(), SinkFailed> {
+        if self.room.len() - self.len < MOST_DIGITS {
+            let mut buffer = Buffer::new();
+            return self.put_bytes(buffer.format(number).as_bytes());
+        }
+        self.len += put_digits(number, self.len, self.room);
         Ok(())
     }
 

@@ -1,12 +1,14 @@
 //! A caller's buffers, filled from the front as far as they reach.
 ghost use Rattle.std.specs.Prelude.{◌≡◌, ◌+◌, ◌<◌, ◌≤◌, [], ◌∷◌, length, min, take};
-ghost use Rattle.std.specs.Prelude.{◌-◌, ◌^◌, ◌++◌, drop};
+ghost use Rattle.std.specs.Prelude.{◌-◌, ◌^◌, ◌++◌, drop, decimal};
 ghost use Rattle.trac_c.specs.Held.{buffer_code};
 ghost use Rattle.trac_checker.specs.WrittenBytes.{bytes_of};
 ghost use Rattle.trac_c.specs.Buffers.{laid, laid_from};
 
+use itoa::write_digits;
 use trac_checker::NullSink;
 use trac_core::{Characters, Sink, SinkFailed};
+use trac_devices::decimal_len;
 
 /// Puts bytes to the front of a buffer, as many as fit, and gives how many fit.
 pub(crate) fn lay(bytes: &[u8], room: &mut [u8]) -> usize
@@ -31,6 +33,22 @@ pub(crate) fn put_characters(text: &Characters<'_>, place: usize, room: &mut [u8
 {
     let count = text.len().min(room.len() - place);
     text.part(0, count).write(&mut room[place..place + count]);
+    count
+}
+
+/// How many digits a number of 32 bits has at most.
+pub(crate) const MOST_DIGITS: usize = 10;
+
+/// Puts the digits of a number to a place of a buffer which has room for ten, and gives how many they are.
+#[inline(always)]
+pub(crate) fn put_digits(number: u32, place: usize, room: &mut [u8]) -> usize
+    requires { place + 10 ≤ length room.old }
+    ensures put { take (place + result) room.new ≡ take place room.old ++ decimal number }
+    ensures few { result ≤ 10 }
+    ensures same { length room.new ≡ length room.old }
+{
+    let count = decimal_len(number) as usize;
+    write_digits(u64::from(number), room, place + count);
     count
 }
 

@@ -3,6 +3,8 @@ use Rattle.trac_core.proofs.Imports.{◌≡◌, ℕ, zero, suc, ◌+◌, ◌<◌
 use Rattle.trac_functions.proofs.FlatLemmas.{size-used}
 use Rattle.trac_core.specs.declared.machine.Counters.{Counters}
 use Rattle.trac_core.specs.declared.machine.advancing.Advance.{Advance}
+use Rattle.trac_core.specs.declared.outcome.StepOutcome.{StepOutcome}
+use Rattle.trac_core.specs.Driving.{ReadsOn}
 use Rattle.std.proofs.lemmas.Bool.{and_right}
 use Rattle.trac_core.proofs.Performed.{uncalled, unperformed}
 use Rattle.trac_core.proofs.Moments.{one_passed, goes_on-passes, peak_after-same}
@@ -144,6 +146,27 @@ module _ {I O : Type 0} (performed : Standing I O → Option Fate → Standing I
       let loaded = drive-next performed start stops w middle meta at k peak meta need top (suc k) source source sink sink refl (inl (loading, refl)) top_is refl goes in
       let begun = drive-run performed start stops middle (idling_begun w) meta at (suc k) top source sink 7 need top all refl (idling-sound w sound fits) (omega arith) (omega arith) (idling-advances w) (inl (omega arith)) (omega arith) (omega arith) loaded in
       subst (λ (w : Contents). GoesBy performed all start (standing (turning stops w meta (counters_after at all top)) source sink)) (sym is) begun
+
+-- steps that need no more cells than are counted leave the peak
+peak-still : (n cells peak : ℕ) → cells ≤ peak → peak_after n cells peak ≡ peak
+peak-still zero cells peak within = refl
+peak-still (suc n) cells peak within = omega arith
+
+module _ {I O : Type 0} (performed : Standing I O → Option Fate → Standing I O → Type 0) (start : Standing I O) (stops : Bool) (w new : Contents) (meta : ℕ) (at : Counters) (k peak : ℕ) where
+  -- a string is read, and some characters of it are scanned
+  pub drive-read : (source source_after : I) (sink : O) (scanned top all : ℕ) (outcome : StepOutcome) → ReadsOn performed outcome scanned w meta source sink new source_after → outcome.fate ≡ None → new.room ≡ w.room → at.steps + all ≤ at.allowance → top ≡ max peak outcome.need → all ≡ suc k + scanned → GoesBy performed k start (standing (turning stops w meta (counters_after at k peak)) source sink) → GoesBy performed all start (standing (turning stops new meta (counters_after at all top)) source_after sink)
+  drive-read source source_after sink scanned top all outcome r none stays within top_is all_is goes =
+      let step = subst (λ fate. PerformedFor performed fate outcome.need w meta source sink r.middle meta source_after sink) none r.step in
+      let one = drive-step performed start stops w r.middle meta at k peak meta outcome.need top (suc k) source source_after sink sink r.room (omega arith) step top_is refl goes in
+      let m = turning stops r.middle meta (counters_after at (suc k) top) in
+      let target = memory_of meta new in
+      let fits = r.fits none in
+      let later = goes-passing performed start source_after sink scanned (suc k) m target refl (omega (arith, size-used meta r.middle, r.sound.fits)) (omega arith) (r.scans meta) one in
+      let steps : at.steps + suc k + scanned ≡ at.steps + all = omega arith in
+      let peaks : peak_after scanned (size (memory_of meta r.middle)) top ≡ top = peak-still scanned (size (memory_of meta r.middle)) top (omega (arith, size-used meta r.middle)) in
+      let same : passed scanned target m ≡ turning stops new meta (counters_after at all top) = λ i. record { memory = target; room = (r.room ∙ sym stays) i; allowance = at.allowance; steps = steps i; peak = peaks i; fate = None; stops = stops } in
+      subst (λ j. GoesBy performed j start (standing (turning stops new meta (counters_after at all top)) source_after sink)) (sym all_is)
+      (subst (λ m. GoesBy performed (suc k + scanned) start (standing m source_after sink)) same later)
 
 -- what is declined where nothing is performed that needs a device
 abbrev pub DeclinesAlone : Bool → Memory → Type 0

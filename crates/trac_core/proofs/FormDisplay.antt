@@ -1,6 +1,11 @@
 -- The display of a form.
 use Rattle.trac_core.proofs.Imports.{◌≡◌, ◌≢◌, ℕ, ◌+◌, ◌-◌, ◌<◌, ◌≤◌, List, [], ◌∷◌, ◌++◌, length, take, drop, slice_get, slice_range, Option, Some, None, refl, sym, ap, ◌∙◌, subst, arith, append_assoc, append-nil, Result, Ok, Err, OnErr, codes, decimal, drop-cons, take_rest, slice_get-get_or, Item, PrintForm, OutputFailed, Text, Form, before_pointer, after_pointer, form_named, argument, World, on_form, printing, show, show_form, meaning_of, value_length, Contents, used, Stream, Breaks, Prints, arguments_at, world, ending, Null, Over, scene, IsCall, AnswersCall, display, shown}
 use Rattle.std.proofs.lemmas.List.{length-append}
+use Rattle.std.specs.Prelude.{IsErr, MatchResult}
+use Rattle.trac_core.proofs.Imports.{get_or, suc, zero, true, false, true≢false}
+use Rattle.trac_core.specs.Display.{is_byte}
+use Rattle.trac_forms.specs.Search.{gap_at, is_gap}
+use Rattle.trac_language.specs.Form.{is_character, items_of}
 use Rattle.trac_language.specs.declared.item.Item.TheVariants.{Byte, Gap}
 use Rattle.trac_core.proofs.Performing.{tried-null, tried-broken}
 use Rattle.trac_functions.proofs.TakenItems.{range-split}
@@ -39,30 +44,66 @@ show-one body k lt =
     let one : (k + 1) - k ≡ 1 = omega arith in
     rw (one, drop-cons body k (Byte 0) lt) (ap shown (sym (slice_get-get_or body k (Byte 0) lt)))
 
-show-split : (body : List Item) (a b c : ℕ) → a ≤ b → b ≤ c → show (slice_range body a c) ≡ show (slice_range body a b) ++ show (slice_range body b c)
+pub show-split : (body : List Item) (a b c : ℕ) → a ≤ b → b ≤ c → show (slice_range body a c) ≡ show (slice_range body a b) ++ show (slice_range body b c)
 show-split body a b c ab bc = ap show (range-split body a b c ab bc) ∙ show-append (slice_range body a b) (slice_range body b c)
 
--- one more item was displayed
-module _ (old mid new : Text) (body : List Item) (from place : ℕ) (item : Option Item) (order : from ≤ place) (is : item ≡ slice_get body place) (first : mid ≡ old ++ show (slice_range body from place)) where
-  show-more : place < length body → show (slice_range body from (place + 1)) ≡ show (slice_range body from place) ++ shown item
-  show-more within =
-      show-split body from place (place + 1) order (omega arith)
-      ∙ ap (λ text. show (slice_range body from place) ++ text) (show-one body place within ∙ ap shown (sym is))
+-- the display of the items up to a place goes on
+module _ (old mid new : Text) (body : List Item) (from place : ℕ) (order : from ≤ place) (first : mid ≡ old ++ show (slice_range body from place)) where
+  pub displays-on : (next : ℕ) → place ≤ next → new ≡ mid ++ show (slice_range body place next) → new ≡ old ++ show (slice_range body from next)
+  displays-on next on more =
+      more ∙ ap (λ t. t ++ show (slice_range body place next)) first
+      ∙ append_assoc old (show (slice_range body from place)) (show (slice_range body place next))
+      ∙ ap (λ t. old ++ t) (sym (show-split body from place next order on))
 
-  pub displays-more : place < length body → new ≡ mid ++ shown item → new ≡ old ++ show (slice_range body from (place + 1))
-  displays-more within more =
-      more ∙ ap (λ t. t ++ shown item) first ∙ append_assoc old (show (slice_range body from place)) (shown item)
-      ∙ ap (λ t. old ++ t) (sym (show-more within))
+  -- or is broken off
+  pub displays-broken : (to : ℕ) → place ≤ to → Breaks mid (show (slice_range body place to)) new → Breaks old (show (slice_range body from to)) new
+  displays-broken to on broke =
+      subst (λ t. Breaks old t new) (sym (show-split body from place to order on))
+      (breaks-then old mid new (show (slice_range body from place)) (show (slice_range body place to)) first broke)
 
-  -- or its display was broken off
-  pub displays-broken : (to : ℕ) → place < to → to ≤ length body → Breaks mid (shown item) new → Breaks old (show (slice_range body from to)) new
-  displays-broken to less within broke =
+-- an error with what was put before it
+pub match-err : {A E : Type 0} (r : Result A E) (P : A → Type 0) (Q : Type 0) → IsErr r → Q → MatchResult r P (λ _. Q)
+match-err (Ok x) P Q wrong q = absurd cc
+match-err (Err e) P Q err q = q
+
+show-characters : (text : Text) → show (items_of text) ≡ text
+show-characters [] = refl
+show-characters (c ∷ text) = ap (λ t. c ∷ t) (show-characters text)
+
+-- characters of a body from a place on, up to place `end`
+module _ (body : List Item) (place end : ℕ) (text : Text) (are : slice_range body place end ≡ items_of text) where
+  pub show-run : show (slice_range body place end) ≡ text
+  show-run = ap show are ∙ show-characters text
+
+  -- the characters were put, or broken off
+  pub run-broken : (old new : Text) (to : ℕ) → place ≤ end → end ≤ to → Breaks old text new → Breaks old (show (slice_range body place to)) new
+  run-broken old new to order on broke =
+      let whole : show (slice_range body place to) ≡ text ++ show (slice_range body end to) =
+      show-split body place end to order on ∙ ap (λ t. t ++ show (slice_range body end to)) show-run in
+      subst (λ t. Breaks old t new) (sym whole) (breaks-off old new text (show (slice_range body end to)) broke)
+
+no_gap : (item : Item) → is_character item ≡ true → is_gap item ≡ true → true ≡ false
+no_gap (Byte c) byte gap = sym gap
+no_gap (Gap k) byte gap = sym byte
+
+-- a run of characters from a character on has at least one
+pub run-some : (body : List Item) (place size : ℕ) (item : Option Item) → item ≡ slice_get body place → is_byte item ≡ true → place < length body → (size ≡ 0 → gap_at body place ≡ true) → 0 < size
+run-some body place zero item is byte within stop =
+    let here = ap is_byte (sym (is ∙ slice_get-get_or body place (Byte 0) within)) ∙ byte in
+    absurd (true≢false (no_gap (get_or body place (Byte 0)) here (stop refl)))
+run-some body place (suc n) item is byte within stop = omega arith
+
+-- an item was put, or broken off
+module _ (body : List Item) (place : ℕ) (item : Option Item) (is : item ≡ slice_get body place) where
+  pub item-shown : place < length body → show (slice_range body place (place + 1)) ≡ shown item
+  item-shown within = show-one body place within ∙ ap shown (sym is)
+
+  pub item-broken : (old new : Text) (to : ℕ) → place < to → to ≤ length body → Breaks old (shown item) new → Breaks old (show (slice_range body place to)) new
+  item-broken old new to less within broke =
       let rest = show (slice_range body (place + 1) to) in
-      let whole : show (slice_range body from to) ≡ show (slice_range body from place) ++ (shown item ++ rest) =
-      show-split body from (place + 1) to (omega arith) (omega arith)
-      ∙ ap (λ t. t ++ rest) (show-more (omega arith)) ∙ append_assoc (show (slice_range body from place)) (shown item) rest in
-      subst (λ t. Breaks old t new) (sym whole)
-      (breaks-then old mid new (show (slice_range body from place)) (shown item ++ rest) first (breaks-off mid new (shown item) rest broke))
+      let whole : show (slice_range body place to) ≡ shown item ++ rest =
+      show-split body place (place + 1) to (omega arith) (omega arith) ∙ ap (λ t. t ++ rest) (item-shown (omega arith)) in
+      subst (λ t. Breaks old t new) (sym whole) (breaks-off old new (shown item) rest broke)
 
 -- ---- forms
 

@@ -14,6 +14,7 @@ pub mod RunningOn
 pub mod FormDisplay
 pub mod RuleRows
 pub mod ReadTexts
+pub mod ReadInPlace
 pub mod Performed
 pub mod Printed
 pub mod NoCommaEnds

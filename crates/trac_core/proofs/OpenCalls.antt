@@ -1,5 +1,5 @@
 -- The open calls of a neutral string, by the places of their marks.
-use Rattle.trac_core.proofs.Imports.{true, false, ◌∷◌, ◌≢◌, ◌⊎◌, ⊎_elim, MatchOption, Neutral, OpenCall, with_cell, cases_Bool, cases_lt, eq-eqb, ne_eqb, get_or, take_more, sum_by-cons, seen, slice_get, unwrap_or, unwrap_or-slice_get, mode_of, Active, ◌≡◌, ℕ, zero, suc, ◌+◌, ◌-◌, ◌<◌, ◌≤◌, List, [], Option, Some, None, length, take, sum_by, refl, sym, ap, ◌∙◌, arith, length-take-le, take-take, Cell, Byte, is_call, NoCall, IsLastCall, neutral_of, mode_at}
+use Rattle.trac_core.proofs.Imports.{true, false, ◌∷◌, ◌≢◌, ⊎_elim, MatchOption, Neutral, OpenCall, with_cell, cases_Bool, cases_lt, eq-eqb, ne_eqb, get_or, take_more, sum_by-cons, seen, slice_get, unwrap_or, unwrap_or-slice_get, mode_of, Active, ◌≡◌, ℕ, zero, suc, ◌+◌, ◌-◌, ◌<◌, ◌≤◌, List, [], Option, Some, None, length, take, sum_by, refl, sym, ap, ◌∙◌, arith, length-take-le, take-take, Cell, Byte, is_call, NoCall, IsLastCall, neutral_of, mode_at}
 use Rattle.trac_language.specs.State.{call_cells}
 use Rattle.trac_functions.proofs.FlatLemmas.{neutral_of-innermost, neutral_of-push, grown-mode, calls-none, size-used}
 use Rattle.std.proofs.lemmas.List.{get_or-take}

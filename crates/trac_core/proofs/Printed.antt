@@ -2,23 +2,27 @@
 use Rattle.trac_functions.specs.Flat.{in_first}
 use Rattle.trac_space.specs.declared.cell.Cell.{Cell}
 use Rattle.trac_space.specs.declared.cell.Cell.TheVariants.{Byte as ByteCell, Call, Comma, Gap, Head}
-use Rattle.trac_core.proofs.Imports.{◌≡◌, ◌≢◌, ℕ, ◌+◌, ◌<◌, Bool, true, false, List, [], ◌∷◌, ◌++◌, length, take, drop, slice_get, get_or, Option, Some, None, refl, sym, ap, ◌∙◌, subst, arith, codes, take-append-drop, take_more, slice_get-get_or, Mode, Item, Function, PrintString, PrintForm, Text, Form, before_pointer, after_pointer, OpenCall, Memory, Input, arguments, argument, World, Meaning, Gives, Ends, on_form, show, show_form, meaning, meaning_of, form_of_call, Rule, EndCall, rule, function_of, world_of, perform, end_call, follow, step, with_active, IsLastCall, text_of_cells, Contents, IsSound, memory_of, mode_at, arguments_at, world, state_with, performed_by, performs, prints_output, function_at, display, shown, printed_in, zero, suc, ◌≤◌, ◌⊎◌, inl, inr, length-drop, texts_of, Fate, Stream, ending, scene, AnswersCall, Null, true≢false}
+use Rattle.trac_core.proofs.Imports.{◌≡◌, ◌≢◌, ℕ, ◌+◌, ◌<◌, Bool, true, false, List, [], ◌∷◌, ◌++◌, length, take, drop, slice_get, Option, Some, None, refl, sym, ap, ◌∙◌, subst, arith, codes, take-append-drop, Mode, Item, Function, PrintString, PrintForm, Text, Form, before_pointer, after_pointer, OpenCall, Memory, Input, arguments, argument, World, Meaning, Gives, Ends, on_form, show, show_form, meaning, meaning_of, form_of_call, Rule, EndCall, rule, function_of, world_of, perform, end_call, follow, step, with_active, IsLastCall, text_of_cells, Contents, IsSound, memory_of, mode_at, arguments_at, world, state_with, performed_by, performs, prints_output, function_at, display, printed_in, zero, suc, ◌≤◌, ◌⊎◌, inl, inr, length-drop, texts_of, Fate, Stream, ending, scene, AnswersCall, Null, true≢false}
 use Rattle.std.proofs.lemmas.List.{length-append}
-use Rattle.trac_language.specs.declared.item.Item.TheVariants.{Byte}
+use Rattle.trac_core.proofs.Imports.{◌-◌, slice_range, take-length}
 use Rattle.std.specs.Prelude.{◌&&◌, if◌then◌else◌, is_none, nat_lt}
 use Rattle.trac_core.specs.Machine.{MachineState}
 use Rattle.trac_core.specs.Session.{next_function, next_printed, output_after, step_prints}
 use Rattle.trac_laws.proofs.Shape.{Reading, Stopped, Given, Shape, Reads, Ended, Does, shape}
 use Rattle.trac_core.specs.Session.{call_prints}
 use Rattle.trac_core.proofs.PrintCalls.{answers-print}
-use Rattle.trac_core.proofs.FormDisplay.{show-append, answers-display}
+use Rattle.trac_core.proofs.FormDisplay.{show-append, show-split, answers-display}
 use Rattle.trac_core.proofs.Performing.{closed, performs-closed, step-performs}
 
 -- ---- how long a display is
 
-pub length-show-more : (body : List Item) (k : ℕ) (item : Option Item) (n : ℕ) → k < length body → item ≡ slice_get body k → n ≡ length (shown item) → length (show (take (k + 1) body)) ≡ length (show (take k body)) + n
-length-show-more body k item n within is n_is =
-    rw (n_is, is ∙ slice_get-get_or body k (Byte 0) within, take_more body k (Byte 0) within, show-append (take k body) (get_or body k (Byte 0) ∷ [])) (length-append (show (take k body)) (show (get_or body k (Byte 0) ∷ [])))
+pub length-show-on : (body : List Item) (place next : ℕ) → place ≤ next → length (show (slice_range body 0 next)) ≡ length (show (slice_range body 0 place)) + length (show (slice_range body place next))
+length-show-on body place next on =
+    ap length (show-split body 0 place next (omega arith) on) ∙ length-append (show (slice_range body 0 place)) (show (slice_range body place next))
+
+-- the part of a body from its begin to its end
+pub whole-body : (body : List Item) → slice_range body 0 (length body) ≡ body
+whole-body body = ap (λ n. take n body) (let all : length body - 0 ≡ length body = omega arith in all) ∙ take-length body
 
 pub length-display : (form : Form) → length (show_form form) ≡ 3 + length (show form.body)
 length-display form =

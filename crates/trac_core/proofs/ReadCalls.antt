@@ -84,16 +84,16 @@ module _ (w mid : Contents) (place meta : ℕ) (text : Text) (call : IsCall w pl
       all (c ∷ text) some here = refl
 
   -- the source ended at once
-  pub read-none : (source source' : Stream) (written : Text) → length text ≡ 0 → source.bytes ≡ text → source'.bytes ≡ [] → AnswersCall place (scene w meta source written) (Over InputEnded) (scene mid meta source' written)
+  pub read-none : (new : Contents) → used new ≡ used mid → (source source' : Stream) (written : Text) → length text ≡ 0 → source.bytes ≡ text → source'.bytes ≡ [] → AnswersCall place (scene w meta source written) (Over InputEnded) (scene new meta source' written)
   unfolding meaning_of
-  read-none source source' written none gave none_left = λ old p m room_is memory_is allowed.
+  read-none new same source source' written none gave none_left = λ old p m room_is memory_is allowed.
       let here = world w.forms meta (ending source.bytes) in
       let text_is : text ≡ [] = nothing text none in
       let bytes_is : source.bytes ≡ [] = gave ∙ text_is in
       let room = room-reads meta w mid text reads in
-      tried-end InputEnded w mid place (Some ReadString) meta source source' written (used mid) call.names
+      tried-end InputEnded w new place (Some ReadString) meta source source' written (used new) call.names
       (ap (λ bytes. meaning_of ReadString (arguments_at w.neutral place) (world w.forms meta (ending bytes))) bytes_is)
-      (used-reads meta w mid text reads ∙ ap (λ n. used w + n) (none ∙ sym (ap (λ bytes. length (before_first (λ c. c == meta) bytes)) bytes_is)))
+      (same ∙ used-reads meta w mid text reads ∙ ap (λ n. used w + n) (none ∙ sym (ap (λ bytes. length (before_first (λ c. c == meta) bytes)) bytes_is)))
       (omega arith) (none_left ∙ sym bytes_is) old p m room_is memory_is allowed _ refl refl
     where
       nothing : (text : Text) → length text ≡ 0 → text ≡ []
@@ -101,29 +101,29 @@ module _ (w mid : Contents) (place meta : ℕ) (text : Text) (call : IsCall w pl
       nothing (c ∷ text) e = absurd (omega arith)
 
   -- the source failed
-  pub read-failed : (source source' : Stream) (written : Text) → source.bytes ≡ text ++ source'.bytes → source.ended ≡ false → AnswersCall place (scene w meta source written) (Over InputFailed) (scene mid meta source' written)
+  pub read-failed : (new : Contents) → used new ≡ used mid → (source source' : Stream) (written : Text) → source.bytes ≡ text ++ source'.bytes → source.ended ≡ false → AnswersCall place (scene w meta source written) (Over InputFailed) (scene new meta source' written)
   unfolding meaning_of
-  read-failed source source' written gave open_still =
+  read-failed new same source source' written gave open_still =
       let p = λ (c : ℕ). c == meta in
       let here = world w.forms meta (failing text) in
       let before : before_meta here ≡ text = before-none p text reads.no_meta in
       let after : from_meta here ≡ [] = from-none p text reads.no_meta in
       let room = room-reads meta w mid text reads in
-      tried-failed w mid place (Some ReadString) meta source source' written text (used mid) call.names
+      tried-failed w new place (Some ReadString) meta source source' written text (used new) call.names
       (ap (λ t. read_string t (from_meta here) here) before ∙ ap (λ t. read_string text t here) after)
-      (used-reads meta w mid text reads ∙ ap (λ t. used w + length t) (sym before))
+      (same ∙ used-reads meta w mid text reads ∙ ap (λ t. used w + length t) (sym before))
       (omega arith) gave open_still
 
   -- no cell was free for the next byte
-  pub read-full : (source source' : Stream) (written : Text) (next : ℕ) → mid.room ≤ used mid → source.bytes ≡ text ++ next ∷ source'.bytes → has_byte meta (next ∷ []) ≡ false → AnswersCall place (scene w meta source written) Full (scene mid meta source' written)
-  read-full source source' written next full gave differs =
+  pub read-full : (new : Contents) (source source' : Stream) (written : Text) (next : ℕ) → mid.room ≤ used mid → source.bytes ≡ text ++ next ∷ source'.bytes → has_byte meta (next ∷ []) ≡ false → AnswersCall place (scene w meta source written) Full (scene new meta source' written)
+  read-full new source source' written next full gave differs =
       let p = λ (c : ℕ). c == meta in
       let here = world w.forms meta (ending source.bytes) in
       let more = position-past p text next source'.bytes reads.no_meta (or_parts (next == meta) false differs).0 in
       let long : length (before_meta here) ≡ position_or_len p (text ++ next ∷ source'.bytes) = ap (λ t. length (before_first p t)) gave ∙ length-before p (text ++ next ∷ source'.bytes) in
       let room = room-reads meta w mid text reads in
       let cells = used-reads meta w mid text reads in
-      tried-full w mid place (Some ReadString) meta source source' written 0 call.names (omega arith)
+      tried-full w new place (Some ReadString) meta source source' written 0 call.names (omega arith)
 
 -- what a call of rs took from the source
 pub reads-take : (meta : ℕ) (w mid : Contents) (text last : Text) (source source' : Stream) → Reads meta w mid text → IsSound mid → length last ≤ 1 → source.bytes ≡ text ++ (last ++ source'.bytes) → TakesFrom w source source' (text ++ last)

@@ -7,9 +7,11 @@ use Rattle.trac_language.specs.declared.function.Function.{Function}
 use Rattle.trac_language.specs.Text.{Text}
 use Rattle.trac_language.specs.State.{Memory, size}
 use Rattle.trac_devices.specs.Devices.{Stream}
-use Rattle.trac_forms.specs.Contents.{Contents}
+use Rattle.trac_forms.specs.Contents.{Contents, used, IsSound}
 use Rattle.trac_functions.specs.Flat.{memory_of}
+use Rattle.trac_core.specs.declared.outcome.StepOutcome.{StepOutcome}
 use Rattle.trac_core.specs.Performed.{performs}
+use Rattle.trac_core.specs.StepsInRow.{Advances}
 use Rattle.trac_core.specs.StepOutcomes.{LeavesSource, LeavesSink}
 use Rattle.trac_core.specs.Machine.{MachineState, moment, counted, Answers, KeepsSettings, KeepsFormsAndMeta}
 use Rattle.trac_core.specs.Advancing.{StepsAlone, EndsAlone}
@@ -73,6 +75,19 @@ pub record Declined {I O : Type 0} (declines : Memory → Type 0) (function : Op
   pub same_meta : after ≡ meta
   pub same_source : source_after ≡ source
   pub same_sink : sink_after ≡ sink
+
+-- a step was performed that reads, and `scanned` steps followed which perform no call, if the run goes on
+pub record ReadsOn {I O : Type 0} (performed : Standing I O → Option Fate → Standing I O → Type 0)
+    (outcome : StepOutcome) (scanned : ℕ) (old : Contents) (meta : ℕ) (source : I) (sink : O) (new : Contents)
+    (after : I) : Type 0 where
+  -- what the contents are between the two
+  pub middle : Contents
+  pub step : PerformedFor performed outcome.fate outcome.need old meta source sink middle meta after sink
+  pub scans : Advances scanned middle new
+  pub room : middle.room ≡ old.room
+  pub sound : IsSound middle
+  pub ends : outcome.fate ≢ None → new ≡ middle
+  pub fits : outcome.fate ≡ None → used middle ≤ outcome.need
 
 -- a step that needs no device, and at which no turn stops, was performed
 abbrev pub PerformedAlone : MachineState → Option Fate → MachineState → Type 0

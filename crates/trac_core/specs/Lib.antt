@@ -8,6 +8,7 @@ pub mod OpenCalls
 pub mod Session
 pub mod StepOutcomes
 pub mod StepsInRow
+pub mod ReadInPlace
 pub mod NamedCalls
 pub mod Advancing
 pub mod Driving

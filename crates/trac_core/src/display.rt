@@ -1,18 +1,17 @@
 //! The display of a form, and the function that prints it: `pf`.
 ghost use Rattle.std.specs.Prelude.{◌≡◌, ◌≢◌, ◌+◌, ◌-◌, ◌<◌, ◌≤◌, ◌^◌, []};
 ghost use Rattle.std.specs.Prelude.{◌++◌, ℕ, length, Some, slice_range, OnErr, OnOk, codes};
-ghost use Rattle.std.specs.Prelude.{decimal};
+ghost use Rattle.std.specs.Prelude.{decimal, ◌*◌, IfOk, MatchResult};
 ghost use Rattle.trac_language.specs.Meaning.{show, show_form};
 ghost use Rattle.trac_forms.specs.Contents.{used, IsTextPart, IsSound};
-ghost use Rattle.trac_devices.specs.Devices.{Stream, failures_of, Prints};
+ghost use Rattle.trac_devices.specs.Devices.{Stream, failures_of, Breaks, Prints};
 ghost use Rattle.trac_functions.specs.Calls.{AreArguments};
 ghost use Rattle.trac_core.specs.StepOutcomes.{scene, HasArguments, AnswersCall, Stands, fate_after};
 ghost use Rattle.trac_core.specs.StepOutcomes.{LeavesSink};
-ghost use Rattle.trac_core.specs.Display.{display_named, shown};
+ghost use Rattle.trac_core.specs.Display.{display_named, is_byte, shown};
 
-use crate::streaming::print_bytes;
-use itoa::Buffer;
-use trac_devices::{Sink, SinkFailed};
+use crate::streaming::put_characters;
+use trac_devices::{Characters, Sink, SinkFailed, decimal_len};
 use trac_forms::{StoredForm, Work};
 use trac_functions::arguments::{Arguments, CallResult};
 use trac_language::{Fate, Function, Item};
@@ -80,7 +79,7 @@ fn show_and_flush<O: Sink>(form: &StoredForm, sink: &mut O) -> Result<(), SinkFa
     sink.flush()
 }
 
-/// Puts the display of a form into a sink, as `pf` prints it, byte by byte: its characters as they
+/// Puts the display of a form into a sink, as `pf` prints it: its characters as they
 /// are, each gap as its ordinal in angle brackets, and `<^>` at the pointer. It doesn't flush. An
 /// error is the sink's: a first part of the display was then put. The display is this processor's
 /// own choice.
@@ -94,7 +93,7 @@ pub fn show_form<O: Sink>(form: &StoredForm, sink: &mut O) -> Result<(), SinkFai
 {
     let pointer = form.pointer();
     show_items(form, 0, pointer, sink)?;
-    print_bytes(b"<^>", sink)?;
+    sink.put_bytes(b"<^>")?;
     show_items(form, pointer, form.body_len(), sink)
 }
 
@@ -114,13 +113,58 @@ fn show_items<O: Sink>(
     ensures kept { O.lent sink.new ≡ O.lent sink.old }
     ensures counts { O.failure_count sink.new ≡ O.failure_count sink.old + failures_of result }
 {
-    for place in from..to {
-        show_item(form.item(place), sink)?;
+    let mut place = from;
+    while place < to {
+        place = show_next(form, place, to, sink)?;
     }
     Ok(())
 }
 
+/// Puts the display of the characters in a row from a place of a form on into a sink, or of the gap that
+/// stands there, and gives the place behind. It ends at place `to`, or before.
+#[inline(always)]
+fn show_next<O: Sink>(
+    form: &StoredForm,
+    place: u32,
+    to: u32,
+    sink: &mut O,
+) -> Result<u32, SinkFailed>
+    requires order { place < to }
+    requires within { to ≤ length form.now.body }
+    requires counts { O.failure_count sink.old < 2 ^ 64 - 1 }
+    ensures further { IfOk result (λ next. (place < next) × (next ≤ to)) }
+    ensures prints { let old = O.written sink.old in
+        O.tells sink.old → MatchResult result
+        (λ next. O.written sink.new ≡ old ++ show (slice_range form.now.body place next))
+        (λ _. Breaks old (show (slice_range form.now.body place to)) (O.written sink.new)) }
+    ensures told { O.tells sink.old → O.tells sink.new }
+    ensures kept { O.lent sink.new ≡ O.lent sink.old }
+    ensures counts { O.failure_count sink.new ≡ O.failure_count sink.old + failures_of result }
+{
+    let item = form.item(place);
+    if is_byte(item) {
+        let run = form.run(place, to);
+        put_characters(&Characters::new(run), sink)?;
+        return Ok(place + run.len() as u32);
+    }
+    show_item(item, sink)?;
+    Ok(place + 1)
+}
+
+/// Whether an item is a character.
+#[inline(always)]
+fn is_byte(item: Option<Item>) -> bool
+    ensures { result ≡ is_byte item }
+{
+    match item {
+        Some(Item::Byte(_)) => true,
+        Some(Item::Gap(_)) => false,
+        None => false,
+    }
+}
+
 /// Puts the display of an item into a sink, where there is one.
+#[inline(always)]
 fn show_item<O: Sink>(item: Option<Item>, sink: &mut O) -> Result<(), SinkFailed>
     requires { O.failure_count sink.old < 2 ^ 64 - 1 }
     ensures prints { O.tells sink.old →
@@ -145,10 +189,9 @@ fn show_gap<O: Sink>(ordinal: u32, sink: &mut O) -> Result<(), SinkFailed>
     ensures kept { O.lent sink.new ≡ O.lent sink.old }
     ensures counts { O.failure_count sink.new ≡ O.failure_count sink.old + failures_of result }
 {
-    let mut buffer = Buffer::new();
-    print_bytes(b"<", sink)?;
-    print_bytes(buffer.format(ordinal).as_bytes(), sink)?;
-    print_bytes(b">", sink)
+    sink.put(b'<')?;
+    sink.put_number(ordinal)?;
+    sink.put(b'>')
 }
 
 /// How many bytes the display of a form has, which `show_form` puts into a sink.
@@ -156,23 +199,42 @@ pub fn display_len(form: &StoredForm) -> u32
     ensures { result ≡ length (show_form form.now) }
 {
     let mut len = 3;
-    for place in 0..form.body_len() {
-        len += item_len(form.item(place));
+    let mut place = 0;
+    while place < form.body_len() {
+        let (more, next) = next_len(form, place);
+        len += more;
+        place = next;
     }
     len
 }
 
+/// How many bytes the display of the characters in a row from a place of a form on has, or of the gap that
+/// stands there, and the place behind.
+#[inline(always)]
+fn next_len(form: &StoredForm, place: u32) -> (u32, u32)
+    requires { place < length form.now.body }
+    ensures further { (place < result.1) × (result.1 ≤ length form.now.body) }
+    ensures length { result.0 ≡ length (show (slice_range form.now.body place result.1)) }
+    ensures short { result.0 ≤ 12 * (result.1 - place) }
+{
+    let end = form.body_len();
+    let item = form.item(place);
+    if is_byte(item) {
+        let len = form.run(place, end).len() as u32;
+        return (len, place + len);
+    }
+    (item_len(item), place + 1)
+}
+
 /// How many bytes the display of an item has, 0 if there is none.
+#[inline(always)]
 fn item_len(item: Option<Item>) -> u32
     ensures length { result ≡ length (shown item) }
     ensures short { result ≤ 12 }
 {
     match item {
         Some(Item::Byte(_)) => 1,
-        Some(Item::Gap(ordinal)) => {
-            let mut buffer = Buffer::new();
-            2 + buffer.format(ordinal).len() as u32
-        }
+        Some(Item::Gap(ordinal)) => 2 + decimal_len(ordinal),
         None => 0,
     }
 }

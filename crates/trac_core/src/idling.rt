@@ -62,18 +62,25 @@ pub(crate) fn may_begin_idling(work: &Work, most: u64) -> bool
     most >= IDLING_STEPS && work.free() + work.neutral_len() >= 11
 }
 
+/// The active string is empty. The cells that the first of the eight steps of `begin_idling` needs; the others need
+/// no more.
+#[inline(always)]
+pub(crate) fn idling_need(work: &Work) -> u32
+    requires empty { work.now.active ≡ [] }
+    requires room { cells work.now.forms + 11 ≤ work.now.room }
+    ensures need { result ≡ cells work.now.forms + 11 }
+{
+    work.used() - work.neutral_len() + 11
+}
+
 /// The active string is empty. Makes eight steps: the idling procedure is loaded, and its two calls
-/// are opened and their names scanned. Gives the cells that the first of these steps needs; the others
-/// need no more.
+/// are opened and their names scanned.
 #[inline(never)]
-pub(crate) fn begin_idling(work: &mut Work) -> u32
+pub(crate) fn begin_idling(work: &mut Work)
     requires empty { work.old.active ≡ [] }
     requires room { cells work.old.forms + 11 ≤ work.old.room }
     ensures begun { work.new ≡ idling_begun work.old }
-    ensures need { result ≡ cells work.old.forms + 11 }
     ensures keeps { KeepsRoom work.old work.new }
 {
     work.set_strings(BEGUN, b"))");
-    // Each of the two call marks stands for two characters.
-    work.used() + 2
 }

@@ -10,6 +10,7 @@ mod input_output;
 mod machine;
 mod outcome;
 mod performer;
+mod read_in_place;
 mod rules;
 mod run_hints;
 mod runs;

@@ -1,18 +1,20 @@
 //! What performs the calls that the scanner comes to: all of them, with a source and a sink, or those
 //! that need neither.
-ghost use Rattle.std.specs.Prelude.{◌≡◌, ◌-◌, ◌<◌, ◌≤◌, ◌^◌, ◌⊎◌, ⊤, true, Option, None, IfOk, MatchResult};
+ghost use Rattle.std.specs.Prelude.{◌≡◌, ◌≢◌, ◌+◌, ◌-◌, ◌<◌, ◌≤◌, ◌^◌, ◌⊎◌, ⊤, [], true, Option, None, IfOk, IfSome, IsSome, MatchResult};
 ghost use Rattle.trac_language.specs.State.{Memory};
+ghost use Rattle.trac_language.specs.Store.{cells};
 ghost use Rattle.trac_language.specs.declared.fate.Fate.{Fate};
 ghost use Rattle.trac_forms.specs.Contents.{IsSound};
 ghost use Rattle.trac_functions.specs.Calls.{KeepsRoom};
-ghost use Rattle.trac_core.specs.StepsInRow.{AsksFor};
+ghost use Rattle.trac_core.specs.StepsInRow.{AsksFor, HasNoCommaFrom, idling_begun};
 ghost use Rattle.trac_core.specs.Performed.{needs_device};
 ghost use Rattle.trac_core.specs.OpenCalls.{stops_at};
-ghost use Rattle.trac_core.specs.Driving.{Standing, PerformedFor, Declined, PerformedAlone, PerformedWith};
+ghost use Rattle.trac_core.specs.Driving.{Standing, PerformedFor, Declined, PerformedAlone, PerformedWith, ReadsOn};
 
 use crate::call::{asks_host, named, needs_device, perform_alone, perform_next};
-use crate::idling::load_idling;
+use crate::idling::{begin_idling, load_idling};
 use crate::outcome::StepOutcome;
+use crate::read_in_place::{STRING_FROM, read_in_place};
 use crate::scan::NextAction;
 use trac_devices::{Sink, Source};
 use trac_forms::Work;
@@ -50,6 +52,35 @@ pub(crate) trait Performer<I, O>: Copy {
         ensures ready { IfOk result (λ outcome. outcome.fate ≡ None → ready source.new sink.new) }
         ensures fits { IfOk result (λ outcome. outcome.need ≤ work.old.room) }
         ensures keeps { KeepsRoom work.old work.new };
+
+    /// The active string is empty, and eight steps may be made, for which there is room: the idling procedure is
+    /// loaded and its two calls are opened. Then it may make more of the steps that are left, and takes those from
+    /// `left` after which the run goes on: it reads the string, and scans the ordinary characters in front of it. Gives
+    /// the outcome of the step that reads. `None` if it makes no more.
+    fn idle(
+        self,
+        work: &mut Work,
+        left: &mut u64,
+        meta: u8,
+        source: &mut I,
+        sink: &O,
+    ) -> Option<StepOutcome>
+        requires ready { ready source.old sink.now }
+        requires empty { work.old.active ≡ [] }
+        requires room { cells work.old.forms + 11 ≤ work.old.room }
+        requires sound { IsSound work.old }
+        ensures begun { result ≡ None →
+            (work.new ≡ idling_begun work.old) × ((left.new ≡ left.old) × (source.new ≡ source.old)) }
+        ensures read { IfSome result (λ outcome. ReadsOn (performed self) outcome (left.old - left.new - 1)
+            (idling_begun work.old) meta source.old sink.now work.new source.new) }
+        ensures no_comma_from { IfSome result (λ outcome. outcome.fate ≡ None → HasNoCommaFrom 4 work.new.neutral) }
+        ensures left { left.new ≤ left.old }
+        ensures goes_on { IfSome result (λ outcome. outcome.fate ≡ None → left.new < left.old) }
+        ensures ends { IfSome result (λ outcome. outcome.fate ≢ None → left.new ≡ left.old) }
+        ensures some { IsSome result → 0 < left.old }
+        ensures ready { IfSome result (λ outcome. outcome.fate ≡ None → ready source.new sink.now) }
+        ensures fits { IfSome result (λ outcome. outcome.need ≤ work.old.room) }
+        ensures keeps { KeepsRoom work.old work.new };
 }
 
 /// Performs each call. Those that read or print use the source and the sink.
@@ -75,6 +106,26 @@ impl<I: Source, O: Sink> Performer<I, O> for WithDevices {
         sink: &mut O,
     ) -> Result<StepOutcome, Option<Function>> {
         Ok(perform_next(work, action, meta, source, sink))
+    }
+
+    #[inline(always)]
+    fn idle(
+        self,
+        work: &mut Work,
+        left: &mut u64,
+        meta: u8,
+        source: &mut I,
+        _sink: &O,
+    ) -> Option<StepOutcome> {
+        if *left == 0 {
+            begin_idling(work);
+            return None;
+        }
+        let outcome = read_in_place(work, *left - 1, meta, source);
+        if outcome.fate.is_none() {
+            *left -= 1 + u64::from(work.neutral_len() - STRING_FROM);
+        }
+        Some(outcome)
     }
 }
 
@@ -117,5 +168,18 @@ impl Performer<(), ()> for Alone {
                 Ok(perform_alone(work, call, meta))
             }
         }
+    }
+
+    #[inline(always)]
+    fn idle(
+        self,
+        work: &mut Work,
+        _left: &mut u64,
+        _meta: u8,
+        _source: &mut (),
+        _sink: &(),
+    ) -> Option<StepOutcome> {
+        begin_idling(work);
+        None
     }
 }

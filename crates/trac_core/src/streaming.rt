@@ -76,8 +76,9 @@ pub(crate) fn print_text<O: Sink>(text: &Characters<'_>, sink: &mut O) -> Result
     sink.flush()
 }
 
-// Puts the characters of a text into a sink, those of a longer one at once.
-fn put_characters<O: Sink>(text: &Characters<'_>, sink: &mut O) -> Result<(), SinkFailed>
+/// Puts the characters of a text into a sink, those of a longer one at once.
+#[inline(always)]
+pub(crate) fn put_characters<O: Sink>(text: &Characters<'_>, sink: &mut O) -> Result<(), SinkFailed>
     requires { O.failure_count sink.old < 2 ^ 64 - 1 }
     ensures prints { O.tells sink.old →
         Prints result (O.written sink.old) text.now (O.written sink.new) }
@@ -103,21 +104,6 @@ fn put_each<O: Sink>(text: &Characters<'_>, sink: &mut O) -> Result<(), SinkFail
 {
     for i in 0..text.len() {
         sink.put(text.at(i))?;
-    }
-    Ok(())
-}
-
-/// Puts bytes into a sink, one by one.
-pub(crate) fn print_bytes<O: Sink>(bytes: &[u8], sink: &mut O) -> Result<(), SinkFailed>
-    requires { O.failure_count sink.old < 2 ^ 64 - 1 }
-    ensures prints { O.tells sink.old →
-        Prints result (O.written sink.old) bytes.now (O.written sink.new) }
-    ensures told { O.tells sink.old → O.tells sink.new }
-    ensures kept { O.lent sink.new ≡ O.lent sink.old }
-    ensures counts { O.failure_count sink.new ≡ O.failure_count sink.old + failures_of result }
-{
-    for byte in bytes {
-        sink.put(*byte)?;
     }
     Ok(())
 }

@@ -1,4 +1,5 @@
 pub mod Blocks
 pub mod Bytes
+pub mod DigitCounts
 pub mod PutTexts
 mod Imports

@@ -1,5 +1,5 @@
 //! What a machine reads from and writes to.
-ghost use Rattle.std.specs.Prelude.{◌≡◌, ℕ, ◌+◌, ◌-◌, ◌^◌, ◌<◌, List, OnOk};
+ghost use Rattle.std.specs.Prelude.{◌≡◌, ℕ, ◌+◌, ◌-◌, ◌^◌, ◌<◌, List, OnOk, decimal};
 ghost use Rattle.std.specs.Borrow.{GName};
 ghost use Rattle.trac_language.specs.Text.{Text};
 ghost use Rattle.trac_devices.specs.Devices.{Stream, Gives, Streams, failures_of_next, failures_of};
@@ -7,6 +7,7 @@ ghost use Rattle.trac_devices.specs.Devices.{after_put, Prints};
 ghost use Rattle.trac_devices.specs.HeldBytes.{ReadsInto};
 
 use crate::characters::Characters;
+use itoa::Buffer;
 use trac_space::Neutral;
 
 /// What a source answers when it is asked for its next byte.
@@ -103,6 +104,34 @@ pub trait Sink {
             self.put(text.at(i))?;
         }
         Ok(())
+    }
+
+    /// Takes bytes in their order. On an error it has taken a first part of them.
+    fn put_bytes(&mut self, bytes: &[u8]) -> Result<(), SinkFailed>
+        requires { failure_count self.old < 2 ^ 64 - 1 }
+        ensures prints { tells self.old →
+            Prints result (written self.old) bytes.now (written self.new) }
+        ensures told { tells self.old → tells self.new }
+        ensures counts { failure_count self.new ≡ failure_count self.old + failures_of result }
+        ensures kept { lent self.new ≡ lent self.old }
+    {
+        for byte in bytes {
+            self.put(*byte)?;
+        }
+        Ok(())
+    }
+
+    /// Takes the decimal digits of a number. On an error it has taken a first part of them.
+    fn put_number(&mut self, number: u32) -> Result<(), SinkFailed>
+        requires { failure_count self.old < 2 ^ 64 - 1 }
+        ensures prints { tells self.old →
+            Prints result (written self.old) (decimal number) (written self.new) }
+        ensures told { tells self.old → tells self.new }
+        ensures counts { failure_count self.new ≡ failure_count self.old + failures_of result }
+        ensures kept { lent self.new ≡ lent self.old }
+    {
+        let mut buffer = Buffer::new();
+        self.put_bytes(buffer.format(number).as_bytes())
     }
 
     /// Sends on what was taken.

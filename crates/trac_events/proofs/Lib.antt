@@ -1,5 +1,6 @@
 pub mod Depth
 pub mod Failures
+pub mod FirstComma
 pub mod NextArgument
 mod Imports
 pub mod Sources

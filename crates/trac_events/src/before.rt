@@ -30,6 +30,7 @@ pub struct Before {
 impl Before {
     /// Looks at a machine before a step. Looks at the call that the step performs only if you ask for it or
     /// it reads.
+    #[inline(always)]
     #[tactic(auto, using(crate::proofs::Seen::nothing_awaited, crate::proofs::Seen::nothing_dropped))]
     pub fn new(machine: &Machine, with_call: bool) -> Before
         ensures { IsSeen machine.now with_call result }

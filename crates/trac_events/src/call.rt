@@ -9,7 +9,7 @@ ghost use Rattle.trac_events.specs.Changes.{pointer_of};
 
 use crate::change::pointer_of;
 use trac_core::Machine;
-use trac_functions::function::function_named;
+use trac_functions::function::function_before_comma;
 use trac_language::Function;
 use trac_space::Cell;
 
@@ -31,6 +31,15 @@ pub fn argument(arguments: &[Cell], k: u32) -> &[Cell]
         rest = behind_comma(rest);
     }
     &rest[..before_comma(rest)]
+}
+
+/// The function that the arguments of a call name, by the cells of all of them. None if no function has the name.
+/// Looks at three cells at most.
+#[tactic(auto, using(crate::proofs::FirstComma::first_comma))]
+pub fn function_of(arguments: &[Cell]) -> Option<Function>
+    ensures { result ≡ function_named (text_of_cells (argument_of arguments.now 0)) }
+{
+    function_before_comma(arguments)
 }
 
 // The cells behind the first comma mark; none if there is no comma mark.
@@ -81,7 +90,7 @@ impl Named {
             pointer_of (argument_of arguments.now 1) machine.now.memory.forms }
     {
         Named {
-            function: function_named(argument(arguments, 0)),
+            function: function_of(arguments),
             pointer: pointer_of(machine, argument(arguments, 1)),
         }
     }

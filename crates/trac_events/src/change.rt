@@ -5,14 +5,14 @@ ghost use Rattle.trac_space.specs.Texts.{is_byte_cell, text_of_cells};
 ghost use Rattle.trac_events.specs.Changes.{form_of, pointer_of, is_same, takes_part, touched_by};
 
 use trac_core::{Machine, StoredForm};
-use trac_language::{Concerned, Function, Given, facts_of};
+use trac_language::{Concerned, Function, Given, traits_of};
 use trac_space::{Cell, character_of, is_character};
 
 /// The forms that a call of this function can make, change or remove.
 pub fn touched_by(function: Function) -> Concerned
     ensures { result ≡ touched_by function }
 {
-    let traits = facts_of(function).traits;
+    let traits = traits_of(function);
     if traits.changes_forms {
         traits.forms
     } else {
@@ -24,7 +24,7 @@ pub fn touched_by(function: Function) -> Concerned
 pub fn takes_part(function: Function) -> bool
     ensures { result ≡ takes_part function }
 {
-    matches!(facts_of(function).traits.gives, Given::Part)
+    matches!(traits_of(function).gives, Given::Part)
 }
 
 /// The form whose name these cells are. None if no form has it, or if a cell is no character.

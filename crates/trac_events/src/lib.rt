@@ -10,7 +10,7 @@ mod place;
 mod source;
 
 pub use before::{Before, depth_follows};
-pub use call::{Named, argument, arguments_of};
+pub use call::{Named, argument, arguments_of, function_of};
 pub use change::{find_form, is_same, pointer_of, takes_part, touched_by};
 pub use place::{Place, Reading};
 pub use source::{TakenPart, ValueSource, values_come_from};

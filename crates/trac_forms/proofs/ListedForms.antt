@@ -1,6 +1,7 @@
 -- The first of the forms that cells stand for, and those behind it.
 use Rattle.trac_forms.proofs.Imports.{◌≡◌, ◌≢◌, ℕ, ◌+◌, ◌-◌, ◌<◌, ◌≤◌, List, [], ◌∷◌, length, take, drop, map, get_or, slice_range, Some, refl, sym, ap, ◌∙◌, subst, arith, take-length, flat_text, flat_item, form_cells, length-map, length-drop, drop_more, length-between, Form, IsStore, Cell, Byte, Call, Comma, Head, seen}
 use Rattle.trac_forms.proofs.Imports.{text_of_cells, flat_forms, form_at, item_of, forms_in, head_number, form_of, IsListed, IsForm, item_of-cell, forms_in-flat, part-seen, number-at, stands, pointer-within}
+use Rattle.trac_forms.proofs.Imports.{All, All-head, All-tail, IsByte, drop-map, take-map, take-take, length-take-le, items_of}
 use Rattle.trac_store.proofs.Finding.{shown-text}
 
 item_of-seen : (cells : List Cell) → map item_of (map seen cells) ≡ map item_of cells
@@ -76,3 +77,21 @@ module _ (cells : List Cell) (count n m p : ℕ) (listed : IsListed cells count)
           store = subst IsStore (sym later) behind.2;
         };
       }
+
+-- ---- runs of characters in a body
+
+characters-items : (cells : List Cell) → All IsByte cells → map item_of cells ≡ items_of (text_of_cells cells)
+characters-items [] all = refl
+characters-items (Byte b ∷ cells) all = ap (λ items. item_of (Byte b) ∷ items) (characters-items cells (All-tail IsByte (Byte b) cells all))
+characters-items (cell ∷ cells) all = absurd (All-head IsByte cell cells all)
+
+-- the items of the first cells of a part, which are all characters
+pub run-items : (cells : List Cell) (from to count : ℕ) → from + count ≤ to → to ≤ length cells → All IsByte (take count (slice_range cells from to)) → slice_range (map item_of cells) from (from + length (take count (slice_range cells from to))) ≡ items_of (text_of_cells (take count (slice_range cells from to)))
+run-items cells from to count few within all =
+    let run = take count (slice_range cells from to) in
+    let rest = drop from cells in
+    let same : run ≡ take count rest = take-take count (to - from) rest (omega (arith, few)) in
+    let long : length run ≡ count = ap length same ∙ length-take-le count rest (omega (arith, length-drop from cells, few, within)) in
+    let size : from + length run - from ≡ count = omega (arith, long) in
+    ap (λ n. take n (drop from (map item_of cells))) size ∙ ap (take count) (drop-map item_of from cells) ∙ take-map item_of count rest
+    ∙ ap (map item_of) (sym same) ∙ characters-items run all

@@ -1,11 +1,13 @@
 //! Reads the forms of a `Work` one after the other. Nothing here changes a cell.
-ghost use Rattle.std.specs.Prelude.{◌≡◌, ◌≤◌, ◌<◌, All, List, length, slice_get, Some};
+ghost use Rattle.std.specs.Prelude.{◌≡◌, ◌≤◌, ◌<◌, ◌+◌, All, List, length, slice_get, Some};
+ghost use Rattle.std.specs.Prelude.{slice_range, true};
 ghost use Rattle.std.specs.Iterator.{YieldsFirst, item_count};
-ghost use Rattle.trac_language.specs.Form.{Form};
+ghost use Rattle.trac_language.specs.Form.{Form, items_of};
 ghost use Rattle.trac_language.specs.Store.{form_named};
 ghost use Rattle.trac_space.specs.Texts.{IsByte, text_of_cells};
 ghost use Rattle.trac_store.specs.Forms.{form_at};
 ghost use Rattle.trac_forms.specs.Contents.{form_place};
+ghost use Rattle.trac_store.specs.Search.{gap_at};
 ghost use Rattle.trac_store.specs.Stored.{item_of, IsLocated};
 
 use crate::form_finder::FormFinder;
@@ -13,7 +15,7 @@ use crate::item::FormId;
 use crate::work::Work;
 use std::marker::Model;
 use trac_language::Item;
-use trac_space::Cell;
+use trac_space::{Cell, characters_from};
 use trac_store::{Located, heads_of, item_of, number_in_head};
 
 /// A form as it stands in the block. You can read it, and not change it.
@@ -61,6 +63,25 @@ impl<'a> StoredForm<'a> {
             Some(cell) => Some(item_of(cell)),
             None => None,
         }
+    }
+
+    /// The cells of the characters that stand in a row from place `from` of the body on, up to place `to` at
+    /// most. Only a gap ends them before `to`.
+    #[inline]
+    pub fn run(&self, from: u32, to: u32) -> &[Cell]
+        requires order { from ≤ to }
+        requires within { to ≤ length self.now.body }
+        ensures characters { All IsByte result.now }
+        ensures few { from + length result.now ≤ to }
+        ensures items { slice_range self.now.body from (from + length result.now) ≡
+            items_of (text_of_cells result.now) }
+        ensures stop { from + length result.now < to →
+            gap_at self.now.body (from + length result.now) ≡ true }
+    {
+        let body = self.body;
+        let cells = &body[from as usize..to as usize];
+        let count = characters_from(cells, 0, cells.len());
+        &cells[..count]
     }
 
     /// The pointer: the place in the body, from 0 to its length, from which a partial call goes on

@@ -563,7 +563,15 @@ pub fn facts_of(function: Function) -> Facts
     row(function)
 }
 
+/// What holds for every call of a function, as its row says. It costs less than the row.
+pub fn traits_of(function: Function) -> Traits
+    ensures { result ≡ traits function }
+{
+    row(function).traits
+}
+
 // The row of a function.
+#[inline(always)]
 fn row(function: Function) -> Facts
     ensures name { result.name.now ≡ name_of function }
     ensures traits { result.traits ≡ traits function }
@@ -598,6 +606,7 @@ fn row(function: Function) -> Facts
 }
 
 // The row of an operation of arithmetic.
+#[inline(always)]
 fn arithmetic(operation: Arith) -> Facts
     ensures name { result.name.now ≡ name_of (Function.Arithmetic operation) }
     ensures traits { result.traits ≡ traits (Function.Arithmetic operation) }

@@ -89,9 +89,9 @@ fn are_few_characters(cells: &[Cell], at: usize, n: usize) -> bool
     }
 }
 
-// How many characters stand in a row from place `start` on; counts up to `most`.
+/// How many characters stand in a row from place `start` on; counts up to `most`.
 #[inline(always)]
-pub(crate) fn characters_from(cells: &[Cell], start: usize, most: usize) -> usize
+pub fn characters_from(cells: &[Cell], start: usize, most: usize) -> usize
     requires { start + most ≤ length cells.now }
     ensures few { result ≤ most }
     ensures bytes { All IsByte (take result (drop start cells.now)) }

@@ -1,5 +1,5 @@
 -- The first items of a list, and one more.
-use Rattle.std.proofs.Common.{◌≡◌, ◌<◌, ◌+◌, ◌∙◌, ℕ, zero, suc, ap, List, [], ◌∷◌, ◌++◌, length, take, drop, Some, None, arith}
+use Rattle.std.proofs.Common.{◌≡◌, ◌<◌, ◌+◌, ◌∙◌, ℕ, zero, suc, ap, refl, List, [], ◌∷◌, ◌++◌, length, take, drop, Some, None, arith}
 use Rattle.std.specs.Prelude.{slice_get, option_to_list}
 
 module _ {A : Type 0} where
@@ -23,3 +23,14 @@ module _ {A : Type 0} where
 
   pub head_is : (xs : List A) (k : ℕ) (x : A) → slice_get xs k ≡ Some x → drop k xs ≡ x ∷ drop (k + 1) xs
   head_is xs k x is = let e : suc k ≡ k + 1 = omega arith in at xs k x is ∙ ap (λ n. x ∷ drop n xs) e
+
+  pub is_inside : (xs : List A) (k : ℕ) (x : A) → slice_get xs k ≡ Some x → k < length xs
+  is_inside [] k x is = absurd cc
+  is_inside (y ∷ xs) zero x is = omega arith
+  is_inside (y ∷ xs) (suc k) x is = omega (arith, is_inside xs k x is)
+
+  pub none_left : (xs : List A) (k : ℕ) → slice_get xs k ≡ None → drop k xs ≡ []
+  none_left [] zero is = refl
+  none_left [] (suc k) is = refl
+  none_left (y ∷ xs) zero is = absurd cc
+  none_left (y ∷ xs) (suc k) is = none_left xs k is

@@ -1,9 +1,13 @@
 pub mod Counting
 pub mod Grown
 pub mod Keeping
+pub mod LastRun
 pub mod NextNames
 pub mod Noted
+pub mod Plain
 pub mod Said
 pub mod Searched
 pub mod Looked
 pub mod Seen
+pub mod Signs
+pub mod Surplus

@@ -1,17 +1,17 @@
 -- Texts that `in` looks for, and texts that stand among items.
-use Rattle.std.proofs.Common.{◌≡◌, ◌<◌, ◌≤◌, ◌+◌, ◌-◌, ◌∙◌, ℕ, suc, Bool, true, false, refl, ap, sym, List, [], ◌∷◌, length, drop, take, get_or, Option, Some, None, arith, rules}
-use Rattle.std.proofs.lemmas.List.{drop_all, drop_more}
-use Rattle.std.specs.Prelude.{◌&&◌, ◌||◌, ◌==◌, nat_lt, not, is_none, option_map, slice_get, if◌then◌else◌}
+use Rattle.std.proofs.Common.{◌≡◌, ◌<◌, ◌≤◌, ◌+◌, ◌-◌, ◌∙◌, ℕ, suc, Bool, true, false, refl, ap, sym, List, [], ◌∷◌, ◌++◌, length, drop, take, get_or, Option, Some, None, arith, rules}
+use Rattle.std.proofs.lemmas.List.{drop-drop, drop_all, drop_more, take-append-drop}
+use Rattle.std.specs.Prelude.{◌&&◌, ◌||◌, ◌==◌, nat_lt, not, is_none, option_map, slice_get, slice_range, if◌then◌else◌}
 use Rattle.trac_language.specs.declared.item.Item.{Item}
 use Rattle.trac_language.specs.declared.item.Item.TheVariants.{Byte, Gap}
 use Rattle.trac_language.specs.Text.{Text}
-use Rattle.trac_language.specs.Form.{Form, after_pointer}
+use Rattle.trac_language.specs.Form.{Form, after_pointer, items_of}
 use Rattle.trac_language.specs.Part.{initial_part, up_to}
 use Rattle.trac_language.specs.Segment.{place_of}
 use Rattle.trac_language.specs.Segment as segment
 use Rattle.trac_space.specs.declared.cell.Cell.{Cell}
 use Rattle.trac_space.specs.Texts.{character_of, text_of_cells}
-use Rattle.trac_warnings.specs.Gaps.{begins, is_absent, is_character, stands_in}
+use Rattle.trac_warnings.specs.Gaps.{begins, highest_gap, is_absent, is_character, stands_in}
 use Rattle.trac_warnings.proofs.Grown.{head_is}
 use Rattle.trac_warnings.proofs.NextNames.{taken_whole}
 
@@ -85,3 +85,18 @@ pub stands_here : (text : Text) (items : List Item) (k : ℕ) → k < length ite
 stands_here text items k less here =
     let e = drop_more items k (Gap 0) less in
     ap (stands_in text) e ∙ ap (λ b. b || stands_in text (drop (k + 1) items)) (ap (begins text) (sym e) ∙ here)
+
+no_gap : (text : Text) (rest : List Item) (highest : ℕ) → highest_gap highest (items_of text ++ rest) ≡ highest_gap highest rest
+no_gap [] rest highest = refl
+no_gap (c ∷ text) rest highest = no_gap text rest highest
+
+-- characters that stand in a row have no gap among them
+pub over_characters : (items : List Item) (place count : ℕ) (text : Text) (highest : ℕ) → slice_range items place (place + count) ≡ items_of text
+    → highest_gap highest (drop (place + count) items) ≡ highest_gap highest (drop place items)
+over_characters items place count text highest are =
+    let gap = highest_gap highest in
+    let count_is : place + count - place ≡ count = omega arith in
+    let rest = drop (place + count - place) (drop place items) in
+    sym (sym (ap gap (take-append-drop (place + count - place) (drop place items)))
+    ∙ ap (λ t. gap (t ++ rest)) are ∙ no_gap text rest highest
+    ∙ ap gap (drop-drop (place + count - place) place items) ∙ ap (λ n. gap (drop (place + n) items)) count_is)

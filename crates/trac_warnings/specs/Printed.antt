@@ -14,6 +14,10 @@ abbrev pub behind_parenthesis : Text → Text
 behind_parenthesis [] = []
 behind_parenthesis (c ∷ text) = if c == 40 then text else []
 
+-- whether a character is a number sign
+abbrev pub is_sign : ℕ → Bool
+is_sign c = c == 35
+
 -- what stands behind the characters that open the first call of a function in a text; null, if none is in it
 abbrev pub behind_call : Text → Text
 behind_call [] = []

@@ -75,6 +75,23 @@ result_warnings watch before active neutral =
     && (is_null watch before active neutral && not (has_odd_operand watch.arguments.items)))
     NoResult (call_place watch) (argument_of watch.arguments.items 0)
 
+-- whether a step by a rule only takes a character from the active string: the step begins and ends no call, begins no
+-- argument, and takes no text over
+abbrev pub takes_only : ScanningRule → Bool
+takes_only row.Layout = true
+takes_only row.NumberSign = true
+takes_only row.Character = true
+takes_only _ = false
+
+-- whether a step reads nothing
+abbrev pub reads_nothing : Awaits → Bool
+reads_nothing awaits.Nothing = true
+reads_nothing _ = false
+
+-- whether a step that was seen reads nothing, and only takes a character from the active string
+abbrev pub is_plain : Before → Bool
+is_plain before = reads_nothing before.awaits && takes_only before.rule
+
 -- the warnings of what a step did, by its rule
 abbrev pub rule_warnings : {A : Type 0} → ScanningRule → Watch A → Before → (active neutral : ℕ) → List Said
 rule_warnings row.Protection watch before active neutral = drop_warnings watch before

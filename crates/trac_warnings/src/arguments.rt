@@ -30,6 +30,9 @@ pub(crate) fn look_at_arguments<A: Allocator + Copy>(
     ensures said { OnOk result (Warns warnings.old.items warnings.new.items
         (argument_warnings (highest_gap 0 form.now.body) form.now.name ending.now)) }
 {
+    if ending.places.len() <= 1 && arguments_given(ending) == 0 {
+        return Ok(());
+    }
     let gaps = highest_gap(form);
     if is_short(gaps, form.name(), ending) {
         let text = short_text(alloc, form.name(), gaps, arguments_given(ending))?;

@@ -12,8 +12,7 @@ use crate::segmented::{look_at_texts, look_for_texts};
 use crate::warning::{Suspicion, Warning};
 use std::alloc::{AllocError, Allocator};
 use trac_core::StoredForm;
-use trac_events::{argument, takes_part};
-use trac_functions::function::function_named;
+use trac_events::{argument, function_of, takes_part};
 use trac_language::Function;
 use trac_space::Cell;
 
@@ -132,8 +131,5 @@ fn look_at_called<A: Allocator + Copy>(
 fn is_passed(arguments: &[Cell]) -> bool
     ensures { result ≡ calls_form (function_of arguments.now) }
 {
-    matches!(
-        function_named(argument(arguments, 0)),
-        Some(Function::CallForm)
-    )
+    matches!(function_of(arguments), Some(Function::CallForm))
 }

@@ -1,5 +1,5 @@
 //! Gaps of a form, and texts of `ss` in it and in the names of its calls.
-ghost use Rattle.std.specs.Prelude.{◌≡◌, drop, IfOk};
+ghost use Rattle.std.specs.Prelude.{◌≡◌, ◌≤◌, ℕ, drop, IfOk, length};
 ghost use Rattle.trac_space.specs.Texts.{text_of_cells};
 ghost use Rattle.trac_language.specs.Form.{after_pointer};
 ghost use Rattle.trac_warnings.specs.Gaps.{begins, begins_in_name, behind_opening, ends_name, is_absent};
@@ -84,12 +84,26 @@ pub(crate) fn highest_gap(form: &StoredForm) -> u32
     ensures { result ≡ highest_gap 0 form.now.body }
 {
     let mut highest: u32 = 0;
-    for place in 0..form.body_len() {
-        if let Some(item) = form.item(place) {
-            highest = with_gap(highest, &item);
-        }
+    let mut place: u32 = 0;
+    while place < form.body_len() {
+        let gap = behind_characters(form, place);
+        let Some(item) = form.item(gap) else {
+            return highest;
+        };
+        highest = with_gap(highest, &item);
+        place = gap + 1;
     }
     highest
+}
+
+// The place behind the characters that stand in a row from a place of a form on.
+fn behind_characters(form: &StoredForm, place: u32) -> u32
+    requires { place ≤ length form.now.body }
+    ensures within { (place ≤ result) × (result ≤ length form.now.body) }
+    ensures characters { (highest : ℕ) → highest_gap highest (drop result form.now.body) ≡
+        highest_gap highest (drop place form.now.body) }
+{
+    place + form.run(place, form.body_len()).len() as u32
 }
 
 // A number, or the ordinal of an item that is a gap, whichever is greater.

@@ -187,13 +187,13 @@ fn adds(function: Function) -> bool
 fn parts_number(arguments: &[Cell]) -> bool
     ensures { result ≡ parts_number arguments.now }
 {
+    let more = argument(arguments, 3);
+    if !is_number(more) {
+        return false;
+    }
     let one = argument(arguments, 1);
     let other = argument(arguments, 2);
-    let more = argument(arguments, 3);
-    is_number(one)
-        && is_number(other)
-        && is_number(more)
-        && (are_thousands(one, other) || are_thousands(other, more))
+    is_number(one) && is_number(other) && (are_thousands(one, other) || are_thousands(other, more))
 }
 
 // Whether a text is a number: digits alone, at least one.
@@ -235,6 +235,9 @@ fn compares_texts(function: Function) -> bool
 fn differ_by_blanks(one: &[Cell], other: &[Cell]) -> bool
     ensures { result ≡ differ_by_blanks one.now other.now }
 {
+    if is_same(one, other) {
+        return false;
+    }
     let inner = trimmed(one);
-    !is_same(one, other) && !inner.is_empty() && is_same(inner, trimmed(other))
+    !inner.is_empty() && is_same(inner, trimmed(other))
 }

@@ -18,9 +18,8 @@ use crate::printed::{look_at_meta_change, look_at_print};
 use crate::warning::{Suspicion, Warning};
 use std::alloc::{AllocError, Allocator};
 use trac_core::Machine;
-use trac_events::{argument, find_form};
-use trac_functions::function::function_named;
-use trac_language::{Function, Given, Traits, facts_of};
+use trac_events::{argument, find_form, function_of};
+use trac_language::{Function, Given, Traits, traits_of};
 use trac_space::{Cell, character_of};
 
 /// A call before it is performed, and where it was written.
@@ -53,8 +52,8 @@ pub fn look_at_call<A: Allocator + Copy>(
     ensures said { OnOk result (Warns warnings.old.items warnings.new.items
         (call_warnings machine.now.memory.forms ending.now)) }
 {
-    let name = argument(ending.arguments, 0);
-    let Some(function) = function_named(name) else {
+    let Some(function) = function_of(ending.arguments) else {
+        let name = argument(ending.arguments, 0);
         return match suspicion_of_call(machine, name) {
             Some(suspicion) => warn(warnings, alloc, suspicion, ending.begin, name),
             None => Ok(()),
@@ -112,7 +111,7 @@ fn look_at_ignored<A: Allocator + Copy>(
     ensures said { OnOk result (Warns warnings.old.items warnings.new.items
         (ignored_behind (traits function).uses ending.now)) }
 {
-    let Some(most) = facts_of(function).traits.uses else {
+    let Some(most) = traits_of(function).uses else {
         return Ok(());
     };
     let Some(place) = ignored_place(most, ending) else {
@@ -170,7 +169,7 @@ fn look_at_nesting<A: Allocator + Copy>(
 fn suspicion_inside(function: Function, around: &[Cell]) -> Option<Suspicion>
     ensures { result ≡ inside function around.now }
 {
-    let traits = facts_of(function).traits;
+    let traits = traits_of(function);
     if traits.ends {
         Some(Suspicion::HaltInside)
     } else if traits.reads && is_in_default(around) {
@@ -195,9 +194,9 @@ fn is_in_default(arguments: &[Cell]) -> bool
     ensures { result ≡ is_in_default arguments.now }
 {
     let place = commas_in(arguments);
-    match function_named(argument(arguments, 0)) {
+    match function_of(arguments) {
         Some(function) => {
-            let traits = facts_of(function).traits;
+            let traits = traits_of(function);
             traits.default == Some(place) || (traits.chooses && place >= 3)
         }
         None => false,
@@ -230,7 +229,7 @@ fn look_at_form<A: Allocator + Copy>(
     ensures said { OnOk result (Warns warnings.old.items warnings.new.items
         (form_warnings function machine.now.memory.forms ending.now)) }
 {
-    if !facts_of(function).traits.needs_form {
+    if !traits_of(function).needs_form {
         return Ok(());
     }
     let name = argument(ending.arguments, 1);
@@ -281,7 +280,7 @@ fn suspicion_of_missing(machine: &Machine, name: &[Cell], ending: &Ending) -> Op
 pub(crate) fn has_default(function: Function, arguments: &[Cell]) -> bool
     ensures { result ≡ has_default function arguments.now }
 {
-    match facts_of(function).traits.default {
+    match traits_of(function).default {
         Some(place) => !argument(arguments, place).is_empty(),
         None => false,
     }
@@ -291,8 +290,8 @@ pub(crate) fn has_default(function: Function, arguments: &[Cell]) -> bool
 pub(crate) fn is_compared(arguments: &[Cell]) -> bool
     ensures { result ≡ is_compared arguments.now }
 {
-    match function_named(argument(arguments, 0)) {
-        Some(function) => facts_of(function).traits.chooses && commas_in(arguments) <= 2,
+    match function_of(arguments) {
+        Some(function) => traits_of(function).chooses && commas_in(arguments) <= 2,
         None => false,
     }
 }
@@ -363,7 +362,7 @@ pub(crate) fn warn_of<A: Allocator>(
 pub fn characters_of<A: Allocator>(alloc: A, cells: &[Cell]) -> Result<Vec<u8, A>, AllocError>
     ensures { IfOk result (λ text. text.items ≡ text_of_cells cells.now) }
 {
-    let mut text = Vec::new(alloc);
+    let mut text = Vec::with_capacity(alloc, cells.len())?;
     for cell in cells {
         text.push(character_of(cell))?;
     }

@@ -1,9 +1,10 @@
 //! What is suspicious in a call that prints or changes the meta character.
+ghost use Rattle.std.specs.List.{list_any};
 ghost use Rattle.std.specs.Prelude.{◌≡◌, ◌<◌, ◌≤◌, false, OnOk, length};
 ghost use Rattle.trac_space.specs.Texts.{text_of_cells};
 ghost use Rattle.trac_warnings.specs.Performed.{Warns, changes_meta, meta_change_warnings, print_warnings, prints};
 ghost use Rattle.trac_warnings.specs.Printed.{begins_with_line_end, behind_call, behind_parenthesis};
-ghost use Rattle.trac_warnings.specs.Printed.{behind_sign, closes_at_end, has_two_at_end};
+ghost use Rattle.trac_warnings.specs.Printed.{behind_sign, closes_at_end, has_two_at_end, is_sign};
 ghost use Rattle.trac_warnings.specs.Watched.{Kept};
 
 use crate::blanks::trimmed;
@@ -30,7 +31,11 @@ pub(crate) fn look_at_print<A: Allocator + Copy>(
     if !prints(function) {
         return Ok(());
     }
-    let text = characters_of(alloc, trimmed(argument(ending.arguments, 1)))?;
+    let printed = trimmed(argument(ending.arguments, 1));
+    if !has_sign(printed) {
+        return Ok(());
+    }
+    let text = characters_of(alloc, printed)?;
     let behind = behind_call(&text);
     if behind.is_empty() || !closes_at_end(behind) {
         return Ok(());
@@ -45,6 +50,18 @@ fn prints(function: Function) -> bool
     ensures { result ≡ prints function }
 {
     matches!(function, Function::PrintString)
+}
+
+// Whether a number sign stands in a text.
+fn has_sign(cells: &[Cell]) -> bool
+    ensures { result ≡ list_any is_sign (text_of_cells cells.now) }
+{
+    for cell in cells {
+        if character_of(cell) == b'#' {
+            return true;
+        }
+    }
+    false
 }
 
 // What stands behind the characters that open the first call of a function in a text; null if none is in it.

@@ -55,7 +55,20 @@ pub fn push_run<A: Allocator>(
 
 /// Removes the first `count` characters of the runs, or all if there are fewer. An error means that memory
 /// ran out.
+#[inline(always)]
 pub fn take_run<A: Allocator>(runs: &mut Vec<Run, A>, count: usize) -> Result<(), AllocError>
+    ensures { OnOk result (reverse runs.new.items ≡ taken count (reverse runs.old.items)) }
+{
+    let len = runs.len();
+    if len > 0 && count < runs[len - 1].len {
+        runs[len - 1] = runs[len - 1].shortened(count);
+        return Ok(());
+    }
+    take_runs(runs, count)
+}
+
+// Removes the first `count` characters of the runs, one run after the other. An error means that memory ran out.
+fn take_runs<A: Allocator>(runs: &mut Vec<Run, A>, count: usize) -> Result<(), AllocError>
     ensures { OnOk result (reverse runs.new.items ≡ taken count (reverse runs.old.items)) }
 {
     let mut left = count;

@@ -1,22 +1,24 @@
 //! A run that is watched, step by step.
-ghost use Rattle.std.specs.Prelude.{◌≡◌, ◌≢◌, ◌<◌, ◌↔◌, ◌++◌, [], IfOk, OnOk, IsSome, false};
-ghost use Rattle.std.specs.Prelude.{length, option_to_list, reverse};
+ghost use Rattle.std.specs.Prelude.{◌≡◌, ◌≢◌, ◌<◌, ◌↔◌, ◌++◌, ◌-◌, [], IfOk, OnOk, IsSome, false};
+ghost use Rattle.std.specs.Prelude.{length, map, option_to_list, reverse};
 ghost use Rattle.trac_events.specs.Calls.{IsSeen};
 ghost use Rattle.trac_warnings.specs.Counted.{counts_behind, counts_of};
 ghost use Rattle.trac_warnings.specs.Looked.{Looks, place_of};
-ghost use Rattle.trac_warnings.specs.Origins.{in_input, moved};
+ghost use Rattle.trac_warnings.specs.Origins.{in_input, moved, taken};
 ghost use Rattle.trac_warnings.specs.Performed.{Warns};
-ghost use Rattle.trac_warnings.specs.StepWarnings.{JudgesStep, calls_behind, rule_warnings, strings_behind};
+ghost use Rattle.trac_warnings.specs.StepWarnings.{JudgesStep, calls_behind, ended, is_plain, not_ended};
+ghost use Rattle.trac_warnings.specs.StepWarnings.{rule_warnings, strings_behind};
 ghost use Rattle.trac_warnings.specs.Watched.{IsFresh, Kept, KeepsPlaces, KeepsRun, Moves, Reads};
 ghost use Rattle.trac_warnings.specs.Watched.{Stays, said};
 
 use crate::origin::Origin;
-use crate::trail::Run;
+use crate::trail::{Run, take_run};
 use crate::warning::Warning;
 use calls::argument_origin;
+use ends::ends_within;
 use std::alloc::{AllocError, Allocator};
 use std::collections::BTreeMap;
-use trac_core::{Machine, ScanningRule};
+use trac_core::{Awaits, Machine, ScanningRule};
 use trac_events::Before;
 use trac_space::Cell;
 
@@ -126,8 +128,8 @@ impl<A: Allocator + Copy> Watch<A> {
         self.warnings.clear();
         self.arguments.clear();
         let before = Before::new(machine, false);
-        self.neutral = machine.neutral().len();
         if let ScanningRule::EndOfCall = before.rule {
+            self.neutral = machine.neutral().len();
             self.look_at_end_of_call(&before, machine, input)?;
         }
         Ok(before)
@@ -157,13 +159,41 @@ impl<A: Allocator + Copy> Watch<A> {
             self.warnings.clear();
             return Ok(());
         }
+        let active = machine.active();
+        if is_plain(before) {
+            let _value = before.value(machine);
+            let _neutral = machine.neutral();
+            return self.warn_of_plain(before, active.len());
+        }
         let here = self.origin();
         let origin = self.value_origin(before, machine);
-        let active = machine.active();
         self.warn_of_rule(before, here, active, machine.neutral().len())?;
         self.move_on(before, machine, origin)?;
         self.warn_of_read(before, before.value(machine), active.len(), input)?;
         self.warn_of_ends(before.rule, active.len(), here)
+    }
+
+    // Looks at a step by a rule that only takes a character from the active string, in which `active` are left.
+    fn warn_of_plain(&mut self, before: &Before, active: usize) -> Result<(), AllocError>
+        ensures kept { Kept self.old.warnings.items self.new.warnings.items }
+        ensures said { OnOk result (map said self.new.warnings.items ≡ ended before.now.rule active
+            (place_of self.old) self.old.calls.items (map said self.old.warnings.items)
+            (reverse self.old.strings.items)) }
+        ensures strings { OnOk result
+            (reverse self.new.strings.items ≡ not_ended active (reverse self.old.strings.items)) }
+        ensures runs { OnOk result (reverse self.new.runs.items ≡
+            taken (before.now.active - active) (reverse self.old.runs.items)) }
+        ensures read { self.new.read ≡ self.old.read }
+        ensures calls { self.new.calls.items ≡ self.old.calls.items }
+        ensures written { self.new.written ≡ self.old.written }
+    {
+        let taken = before.active.saturating_sub(active);
+        if !ends_within(&self.strings, active) {
+            return take_run(&mut self.runs, taken);
+        }
+        let here = self.origin();
+        take_run(&mut self.runs, taken)?;
+        self.warn_of_ends(before.rule, active, here)
     }
 
     // Looks at what a step did, by its rule, and left in the strings. The first character of the active string was
@@ -213,4 +243,15 @@ impl<A: Allocator + Copy> Watch<A> {
         self.calls.clear();
         self.commas.clear();
     }
+}
+
+// Whether a step reads nothing, and neither opens a call, begins an argument, ends a call nor takes over a text.
+fn is_plain(before: &Before) -> bool
+    ensures { result ≡ is_plain before.now }
+{
+    matches!(before.awaits, Awaits::Nothing)
+        && matches!(
+            before.rule,
+            ScanningRule::Layout | ScanningRule::NumberSign | ScanningRule::Character
+        )
 }

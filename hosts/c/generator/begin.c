@@ -32,6 +32,13 @@
 
 #include <string.h>
 
+/* gcc takes apart the loops that make a few turns of a known number, as clang does without being told. The scanner has
+ * such a loop for the characters of a call. */
+#if defined(__GNUC__) && !defined(__clang__) && !defined(__TINYC__) && defined(__OPTIMIZE__) && \
+    !defined(__OPTIMIZE_SIZE__)
+#pragma GCC optimize("peel-loops")
+#endif
+
 typedef uint8_t u8;
 typedef uint16_t u16;
 typedef uint32_t u32;
@@ -53,12 +60,14 @@ typedef char machine_is_known[sizeof(int) == 4 && (i32)~(u32)0 == -1 && (i64)~(u
 #ifdef __OPTIMIZE_SIZE__
 #define INLINE inline __attribute__((unused))
 #else
-#define INLINE inline __attribute__((always_inline))
+#define INLINE inline __attribute__((always_inline, unused))
 #endif
 #define HELPER static inline __attribute__((unused))
+#define APART static __attribute__((noinline, unused))
 #else
 #define INLINE inline
 #define HELPER static inline
+#define APART static
 /* Ends the program. Other compilers have no word for it, so it calls a function at address 0, which the compiler reads
  * each time, so that it can't know it. Where a system guards memory, that is a fault. A Cortex-M faults, because the
  * address is even; a small machine whose programs begin there begins again. */

@@ -234,11 +234,6 @@ static size_t trac_engine_part(void *machine, uint32_t which) {
     return (size_t)engine_part(address_of(machine), which);
 }
 
-/* Only the package for JavaScript calls this export. */
-HELPER size_t trac_engine_value_source(void *machine, uint32_t which) {
-    return (size_t)engine_value_source(address_of(machine), which);
-}
-
 static uint32_t trac_engine_meta(void *machine) {
     return engine_meta(address_of(machine));
 }

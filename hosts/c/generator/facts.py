@@ -212,6 +212,51 @@ def asks(value, is_wide):
     return [not all(map(is_small, value.args))] * len(value.args)
 
 
+class Bytes:
+    """Finds the numbers of 32 bits of which the lowest eight alone matter."""
+
+    def __init__(self, function):
+        self.whole, self.has_changed = {*function.params}, True
+        statements = [*each(function.body)]
+        while self.has_changed:
+            self.has_changed = False
+            for statement in statements:
+                self.of_statement(statement)
+        for statement in statements:
+            if isinstance(statement, Assign) and statement.variable.kind == 'i32':
+                statement.variable.is_byte = statement.variable not in self.whole
+
+    def of_statement(self, statement):
+        if isinstance(statement, Assign):
+            self.need(statement.values[0], statement.variable in self.whole)
+        elif isinstance(statement, Store):
+            self.need(statement.values[0], True)
+            self.need(statement.values[1], statement.bits > 8)
+        else:
+            for value in statement.values:
+                self.need(value, True)
+
+    def need(self, value, is_whole):
+        """Notes what a value needs, of which all bits matter or the lowest eight."""
+        if value.name == 'get' and is_whole and value.data not in self.whole:
+            self.whole.add(value.data)
+            self.has_changed = True
+        if is_bits_of_byte(value):
+            self.need(value.args[0].args[0], False)
+            return
+        is_masked = value.name == 'and' and value.args[1].name == 'const' and value.args[1].data <= 255
+        for arg in value.args:
+            self.need(arg, is_whole and not is_masked if value.name in SUMS else True)
+
+
+def is_bits_of_byte(value):
+    """Whether a value is some of the lowest eight bits of a number, moved to the right."""
+    if value.name != 'and' or value.args[0].name != 'shr_u':
+        return False
+    counts = value.args[1], value.args[0].args[1]
+    return all(one.name == 'const' for one in counts) and counts[0].data << counts[1].data % 32 <= 255
+
+
 class Refusing:
     """Refuses what isn't known of the stack and the tables, and finds the bytes of the stack that a function takes."""
 

@@ -223,7 +223,7 @@ class Printer:
         variable, value = statement.variable, statement.values[0]
         if is_frame(variable.known):
             return
-        text = self.texts.plain(value, type_of(variable))
+        text = self.texts.assigned(variable, value)
         if statement in self.first:
             self.name(variable)
             kind = type_of(variable)

@@ -4,7 +4,7 @@ from webs import each
 
 NOWHERE = frozenset()
 # So many steps may stand before a return in the place of a branch to them, and so great what that gives.
-SHORT, LEAST = 3, 3
+SHORT, LEAST = 6, 3
 
 
 class Loop(Statement):
@@ -156,7 +156,7 @@ def with_moved(block, left, after):
             uses(block.lists, label) != 1):
         return left
     rest = [*left, Branch(min(after, key=lambda label: label.number))] if falls(left) else left
-    return [] if moved(block.lists[0], label, rest) else left
+    return [] if moved(block.lists[0], label, rest, not falls(left)) else left
 
 
 def label_behind(block, after):
@@ -169,13 +169,13 @@ def label_behind(block, after):
     return None
 
 
-def moved(statements, label, rest):
-    """Whether a branch to a label, which isn't in a loop, has become these statements."""
+def moved(statements, label, rest, into_loops):
+    """Whether a branch to a label has become these statements, which it may in a loop if they end elsewhere."""
     if goes(statements, {label}):
         statements[-1:] = rest
         return True
-    return any(moved(inner, label, rest) for one in statements
-               if not isinstance(one, (Loop, Cases)) and not (isinstance(one, Block) and one.is_loop)
+    return any(moved(inner, label, rest, into_loops) for one in statements
+               if into_loops or not isinstance(one, (Loop, Cases)) and not (isinstance(one, Block) and one.is_loop)
                for inner in one.lists)
 
 

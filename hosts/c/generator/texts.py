@@ -65,6 +65,12 @@ class Texts:
         found = self.of(value, mode)
         return found.cast(mode).text if mode in ('word', 'u32') and found.kind == 'u64' else found.text
 
+    def assigned(self, variable, value):
+        """The text of what a variable gets. gcc adds several bytes as bytes where it is told that no more matters."""
+        text = self.plain(value, type_of(variable))
+        is_long = value.name == 'add' and value.args[0].name == 'add'
+        return f'(u8)({text})' if variable.is_byte and is_long else text
+
     def condition(self, value, is_not=False):
         """The text of a value as a condition, or of its opposite."""
         if value.name in COMPARED:

@@ -38,8 +38,8 @@ class Variable:
         self.kind, self.is_local, self.param = kind, is_local, param
         self.sets, self.reads = [], 0
         # What facts.py finds: what it is to the stack and the tables, how great it can be, and whether more than the
-        # bits of an address matter.
-        self.known, self.most, self.is_wide = None, bits_of(kind), kind == 'i32'
+        # bits of an address matter, or the lowest eight alone.
+        self.known, self.most, self.is_wide, self.is_byte = None, bits_of(kind), kind == 'i32', False
         self.name, self.is_end_of_stack = None, False
 
 

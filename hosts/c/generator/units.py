@@ -12,7 +12,7 @@ SHARED = 1
 # A function of twice the lines takes two times and a half as long: 2 to this power. Measured with gcc 12.
 LONG = 1.35
 # The functions of trac.h and the tables, which stand in the first unit, as such a time.
-API = 40000
+API = 52000
 
 
 class Piece:
@@ -113,17 +113,19 @@ def print_table(table):
 
 def print_rows(rows):
     """What tells whether some bytes of the tables have one of an address, which stand in these rows."""
+    def around(begin, end):
+        return f'count && offset + (count - 1) - {begin}u < {end - begin - 1}u + count'
+    ways = ' ||\n        '.join(f'({around(begin, end)})' for begin, end in rows)
     # One comparison tells of most places that they lie before the first row or behind the last.
-    around = [f'count && offset + (count - 1) - {begin}u < {end - begin - 1}u + count' for begin, end in rows]
-    if len(rows) > 1:
-        ways = ' ||\n        '.join(f'({one})' for one in around)
-        around = [f'count && offset + (count - 1) - {rows[0][0]}u < {rows[-1][1] - rows[0][0] - 1}u + count && (\n'
-                  f'        {ways})']
     print('\n/* Whether so many bytes behind the beginning of the tables have one of an address. */')
-    print(f'HELPER int has_address(word offset, word count) {{\n    return {around[0]};\n}}' if rows else
-          'HELPER int has_address(word offset, word count) { return (void)offset, (void)count, 0; }')
+    print(f"""APART int is_in_row(word offset, word count) {{
+    return {ways};
+}}
+static INLINE int has_address(word offset, word count) {{
+    return {around(rows[0][0], rows[-1][1])} && is_in_row(offset, count);
+}}""" if rows else 'static INLINE int has_address(word offset, word count) { return (void)offset, (void)count, 0; }')
     print("""/* A place where so many bytes have none of them, of the tables or elsewhere. */
-HELPER word no_address(word place, word count) {
+static INLINE word no_address(word place, word count) {
     if (has_address(place - TABLES, count))
         trap();
     return place;

@@ -9,7 +9,7 @@ import sys
 import textwrap
 from collections import Counter
 
-from facts import Refusing, Width, find_greatest, find_places, stack_answer
+from facts import Bytes, Refusing, Width, find_greatest, find_places, stack_answer
 from module import lines_of, module_of, without_guards
 from printing import Printer
 from sources import Sources, first_sentence
@@ -25,6 +25,8 @@ SHORT, MIDDLE, FEW = 80, 200, 3
 # apart by calls that go in a circle, one for each level.
 CHECK = {'$trac_engine_check', '$trac_engine_trace_step'}
 TREE = 'btree::node::Node::destroy'
+# The exports that only the module for browsers has.
+OF_BROWSERS = {'$trac_engine_value_source'}
 
 
 class Function:
@@ -142,6 +144,13 @@ def reached(module, exports):
     return found
 
 
+def keep_exports_of_c(module):
+    """Leaves out of a module the exports that C hasn't, and the functions that they alone need."""
+    module.exports = [name for name in module.exports if name not in OF_BROWSERS]
+    kept = reached(module, module.exports)
+    module.functions = [function for function in module.functions if function[0] in kept]
+
+
 def functions_of(module, sources=None):
     """The functions of a module by their names there, with all that is known of them."""
     refuse_circles(module)
@@ -149,6 +158,8 @@ def functions_of(module, sources=None):
                  if name in module.heads}
     find_greatest(functions)
     Width(functions)
+    for function in functions.values():
+        Bytes(function)
     return functions
 
 
@@ -182,6 +193,7 @@ def print_instructions(functions):
 
 def main(path, other):
     module = module_of(lines_of(path), lines_of(other))
+    keep_exports_of_c(module)
     pieces = pieces_of(module, Sources())
     of_check, of_runs = reached(module, CHECK), reached(module, {*module.exports} - CHECK)
     for name, c_name in module.names.items():

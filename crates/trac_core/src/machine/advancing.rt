@@ -1,16 +1,19 @@
 //! Steps, as many as follow one another.
-ghost use Rattle.std.specs.Prelude.{◌≡◌, ◌+◌, ◌<◌, ◌≤◌, ◌^◌, Bool, None, Some, IsSome};
+ghost use Rattle.std.specs.Prelude.{◌≡◌, ◌+◌, ◌<◌, ◌≤◌, ◌^◌, Bool, None, Some, IsSome, length, max};
+ghost use Rattle.trac_language.specs.State.{Memory};
 ghost use Rattle.trac_forms.specs.Contents.{IsSound};
 ghost use Rattle.trac_functions.specs.Calls.{KeepsRoom};
-ghost use Rattle.trac_core.specs.Machine.{KeepsLimits};
+ghost use Rattle.trac_core.specs.Machine.{KeepsLimits, MachineState, counted};
 ghost use Rattle.trac_core.specs.StepsInRow.{turning, HasNoCommaFrom};
 ghost use Rattle.trac_core.specs.Advancing.{Advanced, advanced_to};
 ghost use Rattle.trac_core.specs.Driving.{Driven, standing};
 ghost use Rattle.trac_core.specs.Session.{next_function};
 
 use super::{Counters, Machine};
-use crate::idling::{IDLING_STEPS, begin_idling, may_begin_idling};
+use crate::idling::{IDLING_STEPS, idling_need, may_begin_idling};
+use crate::outcome::StepOutcome;
 use crate::performer::{Alone, Performer};
+use crate::read_in_place::STRING_FROM;
 use crate::run_hints::RunHints;
 use crate::scan::{NextAction, scan_steps};
 use trac_forms::Work;
@@ -118,7 +121,8 @@ impl<'a> Machine<'a> {
 
 /// Makes at most `most` steps of a run that isn't over and has these counters. They are single values
 /// here, and no part of a machine, so that they need not stand in memory. From place `no_comma_from` on no
-/// comma mark stands in the neutral string.
+/// comma mark stands in the neutral string. `need` has the cells of the first step since a call: those that perform
+/// none need no more than it does.
 #[inline(never)]
 fn go_on<I, O, P: Performer<I, O>>(
     work: &mut Work,
@@ -151,7 +155,6 @@ fn go_on<I, O, P: Performer<I, O>>(
     let reach = most.min(at.allowance - at.steps);
     let mut left = reach;
     let mut peak = at.peak;
-    // The cells of the first step since a call: those that perform none need no more than it does.
     let mut need = work.used();
     let mut hints = RunHints::new(no_comma_from);
     while left > 0 {
@@ -161,10 +164,16 @@ fn go_on<I, O, P: Performer<I, O>>(
                 peak = peak.max(need);
             }
             Err(NextAction::Idling) if may_begin_idling(work, left) => {
-                peak = peak.max(begin_idling(work));
+                peak = peak.max(idling_need(work));
                 left -= IDLING_STEPS;
+                hints = RunHints::new(STRING_FROM);
+                if let Some(read) = performer.idle(work, &mut left, *meta, source, &*sink) {
+                    if let Some(fate) = read.fate {
+                        return over(work, at, reach - left, peak, read, fate);
+                    }
+                    peak = peak.max(read.need);
+                }
                 need = work.used();
-                hints = RunHints::new(work.neutral_len());
             }
             Err(action) => {
                 let last = match performer.perform(work, action, meta, source, sink) {
@@ -172,13 +181,7 @@ fn go_on<I, O, P: Performer<I, O>>(
                     Err(function) => return going(reach - left, function, hints, at.steps, peak),
                 };
                 if let Some(fate) = last.fate {
-                    let before = Counters {
-                        allowance: at.allowance,
-                        steps: at.steps + (reach - left),
-                        peak,
-                    };
-                    let counters = before.after(last);
-                    return over(reach - left, work.neutral_len(), fate, counters);
+                    return over(work, at, reach - left, peak, last, fate);
                 }
                 left -= 1;
                 peak = peak.max(last.need);
@@ -190,19 +193,29 @@ fn go_on<I, O, P: Performer<I, O>>(
     going(reach, None, hints, at.steps, peak)
 }
 
-/// `done` steps, behind which the run is over with this fate and these counters.
-fn over(done: u64, no_comma_from: u32, fate: Fate, counters: Counters) -> Advance
-    ensures { result ≡ record {
-      progress = record { done = done; next = None };
-      no_comma_from = no_comma_from;
-      steps = counters.steps;
-      peak = counters.peak;
-      fate = Some fate;
-    } }
+/// The advance of `done` steps, after which the peak is `peak` and a step with this outcome ends the run with this
+/// fate. `at` has the counters before all of them.
+fn over(work: &Work, at: Counters, done: u64, peak: u32, last: StepOutcome, fate: Fate) -> Advance
+    requires allowed { at.steps + done < at.allowance }
+    requires fate { last.fate ≡ Some fate }
+    ensures progress { result.progress ≡ record { done = done; next = None } }
+    ensures no_comma_from { result.no_comma_from ≡ length work.now.neutral }
+    ensures counts { (m : MachineState) (memory : Memory) → m.steps ≡ at.steps + done → m.peak ≡ peak →
+        let after = counted m memory last.need (Some fate) in
+        (result.steps ≡ after.steps) × (result.peak ≡ after.peak) }
+    ensures steps { result.steps ≤ at.allowance }
+    ensures peak { result.peak ≤ max peak last.need }
+    ensures fate { result.fate ≡ Some fate }
 {
+    let before = Counters {
+        allowance: at.allowance,
+        steps: at.steps + done,
+        peak,
+    };
+    let counters = before.after(last);
     Advance {
         progress: Progress { done, next: None },
-        no_comma_from,
+        no_comma_from: work.neutral_len(),
         steps: counters.steps,
         peak: counters.peak,
         fate: Some(fate),

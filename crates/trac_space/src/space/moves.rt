@@ -14,6 +14,7 @@ use crate::copies::{copy_cells, copy_mostly_apart};
 
 impl<'a> Space<'a> {
     /// Moves the cells of neutral from place `from` on to the front of active, in order.
+    #[inline(always)]
     pub fn neutral_to_active(&mut self, from: u32)
         requires within { from ≤ length self.old.neutral }
         requires no_call { NoCall (drop from self.old.neutral) }

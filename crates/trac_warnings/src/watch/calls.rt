@@ -2,8 +2,6 @@
 //! their ends.
 ghost use Rattle.std.specs.Prelude.{◌≡◌, ◌<◌, ◌&&◌, [], OnOk, true, drop, false, length, min, not};
 ghost use Rattle.std.specs.Prelude.{reverse};
-ghost use Rattle.trac_language.specs.Function.{function_named};
-ghost use Rattle.trac_space.specs.Texts.{text_of_cells};
 ghost use Rattle.trac_warnings.specs.Counted.{counts_behind_call, counts_of};
 ghost use Rattle.trac_warnings.specs.Looked.{Looks, LooksAtEnd, LooksAtMark, around_of, begin_of};
 ghost use Rattle.trac_warnings.specs.Looked.{is_inside, is_stray, place_of, places_of};
@@ -20,8 +18,7 @@ use crate::performed::{Ending, commas_in, look_at_call, warn};
 use crate::warning::{Suspicion, Warning};
 use std::alloc::{AllocError, Allocator};
 use trac_core::{CallMark, Machine};
-use trac_events::{Before, argument, arguments_of};
-use trac_functions::function::function_named;
+use trac_events::{Before, argument, arguments_of, function_of};
 use trac_language::Function;
 use trac_space::{Cell, character_of};
 
@@ -205,7 +202,7 @@ impl<A: Allocator + Copy> Watch<A> {
             && (is_null self.now before.now active neutral
             && not (has_odd_operand self.now.arguments.items))) }
     {
-        is_arithmetic(argument(&self.arguments, 0))
+        is_arithmetic(function_of(&self.arguments))
             && self.is_null(before, active, neutral)
             && !has_odd_operand(&self.arguments)
     }
@@ -245,7 +242,7 @@ impl<A: Allocator + Copy> Watch<A> {
             .neutral
             .saturating_sub(self.arguments.len())
             .saturating_sub(1);
-        argument(&self.arguments, 3).is_empty() && active < before.active && neutral <= mark
+        active < before.active && neutral <= mark && argument(&self.arguments, 3).is_empty()
     }
 }
 
@@ -278,11 +275,11 @@ pub(super) fn calls_beyond(calls: &[Origin], depth: usize) -> &[Origin]
     }
 }
 
-// Whether a name is that of a function of arithmetic.
-fn is_arithmetic(name: &[Cell]) -> bool
-    ensures { result ≡ is_arithmetic (function_named (text_of_cells name.now)) }
+// Whether a function is one of arithmetic.
+fn is_arithmetic(function: Option<Function>) -> bool
+    ensures { result ≡ is_arithmetic function }
 {
-    match function_named(name) {
+    match function {
         Some(Function::Arithmetic(_)) => true,
         _ => false,
     }

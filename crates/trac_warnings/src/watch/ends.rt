@@ -121,7 +121,7 @@ impl<A: Allocator + Copy> Watch<A> {
 }
 
 // Whether the last of the strings that are scanned ends where `active` cells are left in the active string.
-fn ends_within(strings: &[OpenString], active: usize) -> bool
+pub(super) fn ends_within(strings: &[OpenString], active: usize) -> bool
     ensures said { result ≡ false → (rule : ScanningRule) (here : Origin) (calls : List Origin) (reported : List Said) →
         ended rule active here calls reported (reverse strings.now) ≡ reported }
     ensures strings { result ≡ false → not_ended active (reverse strings.now) ≡ reverse strings.now }

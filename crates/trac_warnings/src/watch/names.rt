@@ -1,6 +1,5 @@
 //! The names of the forms that a run defined, and where a value was written that comes from a form.
 ghost use Rattle.std.specs.Prelude.{◌≡◌, [], true, MatchOption, OnOk, false, slice_get, unwrap_or};
-ghost use Rattle.trac_language.specs.Function.{function_named};
 ghost use Rattle.trac_events.specs.Calls.{reads};
 ghost use Rattle.trac_warnings.specs.Counted.{calls_of, counts_behind_call, counts_of, with_call};
 ghost use Rattle.trac_warnings.specs.Counted.{with_form};
@@ -14,9 +13,8 @@ use crate::origin::Origin;
 use crate::performed::characters_of;
 use std::alloc::{AllocError, Allocator};
 use trac_core::{Awaits, Machine, ScanningRule};
-use trac_events::{Before, argument, is_same, pointer_of};
-use trac_functions::function::function_named;
-use trac_language::{Function, Given, facts_of};
+use trac_events::{Before, argument, function_of, is_same, pointer_of};
+use trac_language::{Function, Given, traits_of};
 use trac_space::Cell;
 
 #[tactic(auto, using(crate::proofs::Keeping::keeping))]
@@ -40,7 +38,7 @@ impl<A: Allocator + Copy> Watch<A> {
         begin: Origin,
     ) -> Result<Origin, AllocError> {
         let arguments = self.arguments.as_slice();
-        if !gives_body(argument(arguments, 0)) {
+        if !gives_body(function_of(arguments)) {
             return Ok(begin);
         }
         let name = argument(arguments, 1);
@@ -63,6 +61,9 @@ impl<A: Allocator + Copy> Watch<A> {
         }
         let active = machine.active();
         let added = active.len().saturating_add(1).saturating_sub(before.active);
+        if added == 0 {
+            return self.value;
+        }
         let value = active.get(..added).unwrap_or(&[]);
         self.origin_of_argument(value).unwrap_or(self.value)
     }
@@ -71,22 +72,15 @@ impl<A: Allocator + Copy> Watch<A> {
     // if it is none.
     fn origin_of_argument(&self, value: &[Cell]) -> Option<Origin> {
         let arguments = self.arguments.as_slice();
-        let function = function_named(argument(arguments, 0))?;
-        let traits = facts_of(function).traits;
-        let (first, second) = if traits.chooses {
-            (3, 4)
+        let function = function_of(arguments)?;
+        let traits = traits_of(function);
+        let behind_name = if traits.chooses {
+            place_of_chosen(value, argument(arguments, 3), argument(arguments, 4))
         } else {
-            let place = traits.default?;
-            (place, place)
+            place_of_default(value, arguments, traits.default?)?
         };
         let places = places_of(&self.commas, arguments);
-        if is_same(value, argument(arguments, first)) {
-            places.get((first - 1) as usize).copied()
-        } else if is_same(value, argument(arguments, second)) {
-            places.get((second - 1) as usize).copied()
-        } else {
-            None
-        }
+        places.get(behind_name).copied()
     }
 
     // Keeps which form a call defined, if it defined one; and counts the call, if it is one of `cl`.
@@ -94,7 +88,7 @@ impl<A: Allocator + Copy> Watch<A> {
         ensures stays { KeepsNames self.old self.new }
         ensures counts { OnOk result (counts_of self.new.written.entries ≡ counts_behind_call self.old) }
     {
-        match function_named(argument(&self.arguments, 0)) {
+        match function_of(&self.arguments) {
             Some(Function::DefineString) => {
                 let name = characters_of(self.alloc, argument(&self.arguments, 1))?;
                 self.define(name)
@@ -166,10 +160,32 @@ impl<A: Allocator + Copy> Watch<A> {
     }
 }
 
-// Whether the value of a function of this name is the body of a form, or a part of it.
-fn gives_body(name: &[Cell]) -> bool {
-    match function_named(name) {
-        Some(function) => !matches!(facts_of(function).traits.gives, Given::Nothing),
+// How many arguments stand between the name of a call and the one that is its value: the third or the fourth. Their
+// characters are looked at only if both are as long as the value.
+fn place_of_chosen(value: &[Cell], third: &[Cell], fourth: &[Cell]) -> usize {
+    let is_fourth = value.len() == fourth.len();
+    if value.len() == third.len() && (!is_fourth || is_same(value, third)) {
+        2
+    } else {
+        3
+    }
+}
+
+// How many arguments stand between the name of a call and its default value, the argument `default`. None if that is
+// not the value of the call.
+fn place_of_default(value: &[Cell], arguments: &[Cell], default: u32) -> Option<usize> {
+    let text = argument(arguments, default);
+    if value.len() == text.len() && is_same(value, text) {
+        Some((default as usize).saturating_sub(1))
+    } else {
+        None
+    }
+}
+
+// Whether the value of a function is the body of a form, or a part of it.
+fn gives_body(function: Option<Function>) -> bool {
+    match function {
+        Some(function) => !matches!(traits_of(function).gives, Given::Nothing),
         None => false,
     }
 }

@@ -50,13 +50,18 @@ pub(crate) fn may_begin_idling(work: &Work, most: u64) -> bool
     most >= IDLING_STEPS && work.free() + work.neutral_len() >= 11
 }
 
+/// The active string is empty. The cells that the first of the eight steps of `begin_idling` needs; the others need
+/// no more.
+#[inline(always)]
+pub(crate) fn idling_need(work: &Work) -> u32
+{
+    work.used() - work.neutral_len() + 11
+}
+
 /// The active string is empty. Makes eight steps: the idling procedure is loaded, and its two calls
-/// are opened and their names scanned. Gives the cells that the first of these steps needs; the others
-/// need no more.
+/// are opened and their names scanned.
 #[inline(never)]
-pub(crate) fn begin_idling(work: &mut Work) -> u32
+pub(crate) fn begin_idling(work: &mut Work)
 {
     work.set_strings(BEGUN, b"))");
-    // Each of the two call marks stands for two characters.
-    work.used() + 2
 }

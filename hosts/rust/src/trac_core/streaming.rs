@@ -52,8 +52,9 @@ pub(crate) fn print_text<O: Sink>(text: &Characters<'_>, sink: &mut O) -> Result
     sink.flush()
 }
 
-// Puts the characters of a text into a sink, those of a longer one at once.
-fn put_characters<O: Sink>(text: &Characters<'_>, sink: &mut O) -> Result<(), SinkFailed>
+/// Puts the characters of a text into a sink, those of a longer one at once.
+#[inline(always)]
+pub(crate) fn put_characters<O: Sink>(text: &Characters<'_>, sink: &mut O) -> Result<(), SinkFailed>
 {
     if text.len() < PUT_ONE_BY_ONE {
         put_each(text, sink)
@@ -67,15 +68,6 @@ fn put_each<O: Sink>(text: &Characters<'_>, sink: &mut O) -> Result<(), SinkFail
 {
     for i in 0..text.len() {
         sink.put(text.at(i))?;
-    }
-    Ok(())
-}
-
-/// Puts bytes into a sink, one by one.
-pub(crate) fn print_bytes<O: Sink>(bytes: &[u8], sink: &mut O) -> Result<(), SinkFailed>
-{
-    for byte in bytes {
-        sink.put(*byte)?;
     }
     Ok(())
 }

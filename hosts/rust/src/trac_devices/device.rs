@@ -2,6 +2,7 @@
 //! What a machine reads from and writes to.
 
 use crate::trac_devices::characters::Characters;
+use itoa::Buffer;
 use crate::trac_space::Neutral;
 
 /// What a source answers when it is asked for its next byte.
@@ -48,6 +49,22 @@ pub trait Sink {
             self.put(text.at(i))?;
         }
         Ok(())
+    }
+
+    /// Takes bytes in their order. On an error it has taken a first part of them.
+    fn put_bytes(&mut self, bytes: &[u8]) -> Result<(), SinkFailed>
+    {
+        for byte in bytes {
+            self.put(*byte)?;
+        }
+        Ok(())
+    }
+
+    /// Takes the decimal digits of a number. On an error it has taken a first part of them.
+    fn put_number(&mut self, number: u32) -> Result<(), SinkFailed>
+    {
+        let mut buffer = Buffer::new();
+        self.put_bytes(buffer.format(number).as_bytes())
     }
 
     /// Sends on what was taken.

@@ -9,6 +9,7 @@ mod characters;
 #[cfg(feature = "std")]
 mod counted;
 mod device;
+mod digits;
 #[cfg(feature = "std")]
 mod input;
 #[cfg(feature = "std")]
@@ -26,6 +27,7 @@ mod write_sink;
 pub use buffered::{BufferedReader, BufferedWriter};
 pub use characters::{Characters, write_characters};
 pub use device::{Next, Sink, SinkFailed, Source};
+pub use digits::decimal_len;
 #[cfg(feature = "std")]
 pub use input::Input;
 #[cfg(feature = "std")]

@@ -5,7 +5,7 @@ use crate::trac_forms::form_finder::FormFinder;
 use crate::trac_forms::item::FormId;
 use crate::trac_forms::work::Work;
 use crate::trac_language::Item;
-use crate::trac_space::Cell;
+use crate::trac_space::{Cell, characters_from};
 use crate::trac_store::{Located, heads_of, item_of, number_in_head};
 
 /// A form as it stands in the block. You can read it, and not change it.
@@ -37,6 +37,17 @@ impl<'a> StoredForm<'a> {
             Some(cell) => Some(item_of(cell)),
             None => None,
         }
+    }
+
+    /// The cells of the characters that stand in a row from place `from` of the body on, up to place `to` at
+    /// most. Only a gap ends them before `to`.
+    #[inline]
+    pub fn run(&self, from: u32, to: u32) -> &[Cell]
+    {
+        let body = self.body;
+        let cells = &body[from as usize..to as usize];
+        let count = characters_from(cells, 0, cells.len());
+        &cells[..count]
     }
 
     /// The pointer: the place in the body, from 0 to its length, from which a partial call goes on

@@ -174,6 +174,7 @@ impl<'a> Work<'a> {
 
     /// Moves the characters of neutral from place `from` on to the front of active, in order. Needs no free
     /// cell.
+    #[inline(always)]
     pub fn neutral_to_active(&mut self, from: u32)
     {
         self.space.neutral_to_active(from);

@@ -23,4 +23,5 @@ pub use mode::Mode;
 pub use report::Report;
 pub use table::{
     Concerned, Facts, Given, Group, Traits, facts_of, function_at, function_count, function_named,
+    traits_of,
 };

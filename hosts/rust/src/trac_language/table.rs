@@ -554,7 +554,14 @@ pub fn facts_of(function: Function) -> Facts
     row(function)
 }
 
+/// What holds for every call of a function, as its row says. It costs less than the row.
+pub fn traits_of(function: Function) -> Traits
+{
+    row(function).traits
+}
+
 // The row of a function.
+#[inline(always)]
 fn row(function: Function) -> Facts
 {
     match function {
@@ -587,6 +594,7 @@ fn row(function: Function) -> Facts
 }
 
 // The row of an operation of arithmetic.
+#[inline(always)]
 fn arithmetic(operation: Arith) -> Facts
 {
     match operation {

@@ -65,9 +65,9 @@ fn are_few_characters(cells: &[Cell], at: usize, n: usize) -> bool
     }
 }
 
-// How many characters stand in a row from place `start` on; counts up to `most`.
+/// How many characters stand in a row from place `start` on; counts up to `most`.
 #[inline(always)]
-pub(crate) fn characters_from(cells: &[Cell], start: usize, most: usize) -> usize
+pub fn characters_from(cells: &[Cell], start: usize, most: usize) -> usize
 {
     let mut count = 0;
     while most - count >= BLOCK {

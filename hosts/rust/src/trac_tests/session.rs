@@ -11,7 +11,7 @@ const DEFINES: &[u8] = b"#(ds,F,a-b)#(ss,F,-)#(cm,;)'";
 
 /// Runs a machine over these bytes, from where it stands, and wants this printed.
 fn resumed(machine: &mut Machine, script: &[u8], printed: &[u8]) -> Report {
-    let mut room = [0; 20];
+    let mut room = [0; 64];
     let mut source = SliceSource::new(script, None);
     let mut sink = SliceSink::new(&mut room, None);
     let report = machine.resume(&mut source, &mut sink);
@@ -168,6 +168,49 @@ fn a_form_is_shown() {
     let mut full = SliceSink::new(&mut little, None);
     assert!(show_form(&form, &mut full).is_err());
     assert!(full.written() == b"p<^><1".as_slice());
+}
+
+// The form that a script defines and displays, shown in buffers of each length up to that of its display.
+fn shows(script: &[u8], shown: &[u8]) {
+    let mut block = [Cell::Byte(0); 200];
+    let mut machine = Machine::over(&mut block, 1000);
+    let _ = resumed(&mut machine, script, shown);
+    let mut forms = machine.forms();
+    let Some(form) = forms.next() else {
+        panic!("no form");
+    };
+    assert_eq!(display_len(&form) as usize, shown.len());
+    let mut room = [0; 64];
+    assert!(shown.len() <= room.len());
+    for len in 0..=shown.len() {
+        let mut sink = SliceSink::new(&mut room[..len], None);
+        assert_eq!(show_form(&form, &mut sink).is_ok(), len == shown.len());
+        assert!(sink.written() == &shown[..len]);
+    }
+}
+
+#[test]
+fn forms_are_shown_in_runs() {
+    shows(b"#(ds,A)#(pf,A)'", b"<^>");
+    shows(b"#(ds,A,hello)#(pf,A)'", b"<^>hello");
+    shows(
+        b"#(ds,A,a run of more than thirty-two characters)#(pf,A)'",
+        b"<^>a run of more than thirty-two characters",
+    );
+    shows(b"#(ds,A,-ab)#(ss,A,-)#(pf,A)'", b"<^><1>ab");
+    shows(b"#(ds,A,ab-)#(ss,A,-)#(pf,A)'", b"<^>ab<1>");
+    shows(b"#(ds,A,a--b)#(ss,A,-)#(pf,A)'", b"<^>a<1><1>b");
+    shows(b"#(ds,A,-)#(ss,A,,,,,,,,,,-)#(pf,A)'", b"<^><10>");
+    shows(b"#(ds,A,abcd)#(ds,B,#(cn,A,2))#(pf,A)'", b"ab<^>cd");
+    shows(
+        b"#(ds,A,ab-cd)#(ss,A,-)#(ds,B,#(cn,A,2))#(pf,A)'",
+        b"ab<^><1>cd",
+    );
+    shows(
+        b"#(ds,A,ab-cd)#(ss,A,-)#(ds,B,#(cs,A))#(pf,A)'",
+        b"ab<1><^>cd",
+    );
+    shows(b"#(ds,A,ab)#(ds,B,#(cn,A,5))#(pf,A)'", b"ab<^>");
 }
 
 /// What a run came to, and how many bytes it printed.

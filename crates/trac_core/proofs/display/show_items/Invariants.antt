@@ -1,4 +1,4 @@
-use Rattle.trac_core.proofs.Imports.{◌≡◌, ◌≤◌, ◌++◌, slice_range, show}
+use Rattle.trac_core.proofs.Imports.{◌≡◌, ◌≤◌, ◌-◌, ◌++◌, slice_range, show}
 use Rattle.trac_core.proofs.display.show_items.Given as goal
 
 -- the items up to a place were displayed
@@ -12,3 +12,7 @@ invariant-loop-place g l =
       told : g.O.Sink.tells l.initial.sink → g.O.Sink.tells l.sink;
       writes : g.O.Sink.tells l.initial.sink → g.O.Sink.written l.sink ≡ g.O.Sink.written l.initial.sink ++ show (slice_range l.form.body l.from l.place);
     }
+
+-- the items that are left
+abbrev pub decreases-loop-place : goal.decreases-loop-place
+decreases-loop-place g l = l.to - l.place

@@ -36,7 +36,7 @@ returns-in-Ended-clause-answers g c = λ told place written call.
     let reads = c.in-Ended.ensures.reads in
     let gave = reads.1.1 told in
     let none : length reads.0 ≡ 0 = omega (arith, neutral-reads c.args.meta c.args.work.now c.read_text.new.work reads.0 reads.1.0, c.neutral_len-in-Ended-1.ensures.value, c.neutral_len-from.ensures.value, c.if-neutral_len-from-2.true) in
-    read-none c.args.work.now c.read_text.new.work place c.args.meta reads.0 call reads.1.0 c.read_text.ensures.sound _ _ written none gave.0 gave.1
+    read-none c.args.work.now c.read_text.new.work place c.args.meta reads.0 call reads.1.0 c.read_text.ensures.sound c.read_text.new.work refl _ _ written none gave.0 gave.1
 
 pub returns-in-Ended-2-clause-answers : goal.returns-in-Ended-2-clause-answers
 returns-in-Ended-2-clause-answers g c = λ told place written call.
@@ -52,13 +52,13 @@ pub returns-in-Failed-clause-answers : goal.returns-in-Failed-clause-answers
 returns-in-Failed-clause-answers g c = λ told place written call.
     let reads = c.in-Failed.ensures.reads in
     let gave = reads.1.1 told in
-    read-failed c.args.work.now c.read_text.new.work place c.args.meta reads.0 call reads.1.0 c.read_text.ensures.sound _ _ written gave.0 gave.1
+    read-failed c.args.work.now c.read_text.new.work place c.args.meta reads.0 call reads.1.0 c.read_text.ensures.sound c.read_text.new.work refl _ _ written gave.0 gave.1
 
 pub returns-in-Full-clause-answers : goal.returns-in-Full-clause-answers
 returns-in-Full-clause-answers g c = λ told place written call.
     let reads = c.in-Full.ensures.reads in
     let gave = reads.1.1 told in
-    read-full c.args.work.now c.read_text.new.work place c.args.meta reads.0 call reads.1.0 c.read_text.ensures.sound _ _ written gave.0 (c.in-Full.ensures.full refl) gave.1.0 gave.1.1
+    read-full c.args.work.now c.read_text.new.work place c.args.meta reads.0 call reads.1.0 c.read_text.ensures.sound c.read_text.new.work _ _ written gave.0 (c.in-Full.ensures.full refl) gave.1.0 gave.1.1
 
 pub returns-in-Full-clause-takes : goal.returns-in-Full-clause-takes
 returns-in-Full-clause-takes g c = λ told.

@@ -2,8 +2,10 @@
 //! Steps, as many as follow one another.
 
 use super::{Counters, Machine};
-use crate::trac_core::idling::{IDLING_STEPS, begin_idling, may_begin_idling};
+use crate::trac_core::idling::{IDLING_STEPS, idling_need, may_begin_idling};
+use crate::trac_core::outcome::StepOutcome;
 use crate::trac_core::performer::{Alone, Performer};
+use crate::trac_core::read_in_place::STRING_FROM;
 use crate::trac_core::run_hints::RunHints;
 use crate::trac_core::scan::{NextAction, scan_steps};
 use crate::trac_forms::Work;
@@ -88,7 +90,8 @@ impl<'a> Machine<'a> {
 
 /// Makes at most `most` steps of a run that isn't over and has these counters. They are single values
 /// here, and no part of a machine, so that they need not stand in memory. From place `no_comma_from` on no
-/// comma mark stands in the neutral string.
+/// comma mark stands in the neutral string. `need` has the cells of the first step since a call: those that perform
+/// none need no more than it does.
 #[inline(never)]
 fn go_on<I, O, P: Performer<I, O>>(
     work: &mut Work,
@@ -104,7 +107,6 @@ fn go_on<I, O, P: Performer<I, O>>(
     let reach = most.min(at.allowance - at.steps);
     let mut left = reach;
     let mut peak = at.peak;
-    // The cells of the first step since a call: those that perform none need no more than it does.
     let mut need = work.used();
     let mut hints = RunHints::new(no_comma_from);
     while left > 0 {
@@ -114,10 +116,16 @@ fn go_on<I, O, P: Performer<I, O>>(
                 peak = peak.max(need);
             }
             Err(NextAction::Idling) if may_begin_idling(work, left) => {
-                peak = peak.max(begin_idling(work));
+                peak = peak.max(idling_need(work));
                 left -= IDLING_STEPS;
+                hints = RunHints::new(STRING_FROM);
+                if let Some(read) = performer.idle(work, &mut left, *meta, source, &*sink) {
+                    if let Some(fate) = read.fate {
+                        return over(work, at, reach - left, peak, read, fate);
+                    }
+                    peak = peak.max(read.need);
+                }
                 need = work.used();
-                hints = RunHints::new(work.neutral_len());
             }
             Err(action) => {
                 let last = match performer.perform(work, action, meta, source, sink) {
@@ -125,13 +133,7 @@ fn go_on<I, O, P: Performer<I, O>>(
                     Err(function) => return going(reach - left, function, hints, at.steps, peak),
                 };
                 if let Some(fate) = last.fate {
-                    let before = Counters {
-                        allowance: at.allowance,
-                        steps: at.steps + (reach - left),
-                        peak,
-                    };
-                    let counters = before.after(last);
-                    return over(reach - left, work.neutral_len(), fate, counters);
+                    return over(work, at, reach - left, peak, last, fate);
                 }
                 left -= 1;
                 peak = peak.max(last.need);
@@ -143,12 +145,19 @@ fn go_on<I, O, P: Performer<I, O>>(
     going(reach, None, hints, at.steps, peak)
 }
 
-/// `done` steps, behind which the run is over with this fate and these counters.
-fn over(done: u64, no_comma_from: u32, fate: Fate, counters: Counters) -> Advance
+/// The advance of `done` steps, after which the peak is `peak` and a step with this outcome ends the run with this
+/// fate. `at` has the counters before all of them.
+fn over(work: &Work, at: Counters, done: u64, peak: u32, last: StepOutcome, fate: Fate) -> Advance
 {
+    let before = Counters {
+        allowance: at.allowance,
+        steps: at.steps + done,
+        peak,
+    };
+    let counters = before.after(last);
     Advance {
         progress: Progress { done, next: None },
-        no_comma_from,
+        no_comma_from: work.neutral_len(),
         steps: counters.steps,
         peak: counters.peak,
         fate: Some(fate),

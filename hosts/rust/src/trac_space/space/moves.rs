@@ -8,6 +8,7 @@ use crate::trac_space::copies::{copy_cells, copy_mostly_apart};
 
 impl<'a> Space<'a> {
     /// Moves the cells of neutral from place `from` on to the front of active, in order.
+    #[inline(always)]
     pub fn neutral_to_active(&mut self, from: u32)
     {
         let count = self.neutral - from;

@@ -1,7 +1,7 @@
 use Rattle.std.proofs.Common.{◌≡◌, ◌+◌, length}
 use Rattle.std.specs.Prelude.{reverse}
 use Rattle.trac_warnings.specs.Origins.{taken}
-use Rattle.trac_warnings.proofs.trail.take_run.Given as goal
+use Rattle.trac_warnings.proofs.trail.take_runs.Given as goal
 
 -- the runs that are left, without the characters that are left to take, are the runs that are wanted
 abbrev pub invariant-loop : goal.invariant-loop

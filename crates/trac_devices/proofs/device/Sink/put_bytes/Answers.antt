@@ -1,5 +1,5 @@
 use Rattle.trac_devices.proofs.PutTexts.{prints-err, breaks-text}
-use Rattle.trac_core.proofs.streaming.print_bytes.Goals as goal
+use Rattle.trac_devices.proofs.device.Sink.put_bytes.Goals as goal
 
 pub returns-in_err-put-clause-prints : goal.returns-in_err-put-clause-prints
 returns-in_err-put-clause-prints g c = λ told.

@@ -1,0 +1,31 @@
+//! How many digits a number has.
+ghost use Rattle.std.specs.Prelude.{◌≡◌, ◌≤◌, length, decimal};
+
+/// How many decimal digits a number has.
+#[inline(always)]
+pub fn decimal_len(number: u32) -> u32
+    ensures length { result ≡ length (decimal number) }
+    ensures short { result ≤ 10 }
+{
+    if number < 10 {
+        1
+    } else if number < 100 {
+        2
+    } else if number < 1000 {
+        3
+    } else if number < 10_000 {
+        4
+    } else if number < 100_000 {
+        5
+    } else if number < 1_000_000 {
+        6
+    } else if number < 10_000_000 {
+        7
+    } else if number < 100_000_000 {
+        8
+    } else if number < 1_000_000_000 {
+        9
+    } else {
+        10
+    }
+}
