@@ -44,7 +44,7 @@ COMPILE = compile() { \
         -DTRAC_UNIT=$$1 -c -o $$file.$$$$ hosts/c/trac_engine.c && sync $$file.$$$$ && \
     mv -f $$file.$$$$ $$file; }
 WAIT = for process in $$started; do wait $$process || exit; done
-# In trac_check one function has seven thousand lines. gcc compiles it in half the time with -O1, and as well.
+# In trac_check one function has three thousand lines. gcc compiles it in half the time with -O1, and as well.
 CHECK_CFLAGS = -O1
 # The name of the shared library has the part of the version by which trac_abi refuses a program: all but the patch.
 ABI != cut -d . -f 1,2 VERSION

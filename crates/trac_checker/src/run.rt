@@ -75,6 +75,7 @@ pub fn watched<A: Allocator + Copy, I: Source>(
 }
 
 // What is suspicious in how a script is written.
+#[inline(never)]
 fn of_script<A: Allocator + Copy>(alloc: A, input: &[u8]) -> Result<Findings<A>, AllocError>
     ensures { IfOk result (λ findings. found_in findings ≡ found_in_script input.now) }
 {
@@ -86,6 +87,7 @@ fn of_script<A: Allocator + Copy>(alloc: A, input: &[u8]) -> Result<Findings<A>,
 }
 
 // Adds what is told of the fault that ended a run, if this fate is a fault. `watch` saw the whole run.
+#[inline(never)]
 fn add_fault<A: Allocator + Copy>(
     findings: &mut Findings<A>,
     alloc: A,
@@ -105,6 +107,7 @@ fn add_fault<A: Allocator + Copy>(
 }
 
 // Adds the names in a script that are nearly those of functions, and that no call had that was performed.
+#[inline(never)]
 fn add_names<A: Allocator + Copy>(
     findings: &mut Findings<A>,
     alloc: A,
@@ -165,6 +168,7 @@ impl<A: Allocator + Copy> WatchedRun<A> {
 
     /// Adds a line for each warning, which begins with `head`, in the order of their places in `input`, the whole
     /// input; but no line for a warning that another one explains. Fails only if memory runs out.
+    #[inline(never)]
     pub fn push_warnings(
         &self,
         lines: &mut Vec<u8, A>,
@@ -189,6 +193,7 @@ impl<A: Allocator + Copy> WatchedRun<A> {
     }
 
     // Adds the line of a warning at this place, which begins with `head`.
+    #[inline(never)]
     fn push_line(
         &self,
         lines: &mut Vec<u8, A>,

@@ -1,5 +1,6 @@
 -- What is written to a buffer, piece by piece.
-use Rattle.trac_image.proofs.Imports.{◌≡◌, ℕ, ◌+◌, ◌*◌, ◌<◌, ◌≤◌, List, [], ◌∷◌, ◌++◌, length, drop, get_or, slice_get, Option, Some, None, refl, sym, ap, ◌∙◌, arith, append-nil, append_assoc, length-append, drop_more, sum_by-cons, slice_get-get_or, flat_map, laid, laid_from, content, form_image, four_bytes, gap_bytes, image_of, no_sums, sum_bytes, summed, with_summand, Page, character_text, gap_text, since_behind, wrote, Form, text_of, cells, form_cells, Text, Item, Byte, Gap}
+use Rattle.trac_image.proofs.Imports.{◌≡◌, ℕ, ◌+◌, ◌-◌, ◌*◌, ◌<◌, ◌≤◌, List, [], ◌∷◌, ◌++◌, length, take, drop, get_or, slice_get, slice_range, Option, Some, None, refl, sym, ap, ◌∙◌, ⊎_elim, arith, true, append-nil, append_assoc, length-append, take-append-drop, drop-drop, drop_all, drop_more, sum_by-cons, slice_get-get_or, slice_get_cases, flat_map, laid, laid_from, content, form_image, four_bytes, gap_bytes, image_of, no_sums, sum_bytes, summed, with_summand, Page, gap_text, wrote, Form, items_of, text_of, cells, form_cells, Text, Item, Byte, Gap}
+use Rattle.trac_forms.specs.Search.{gap_at, is_gap}
 use Rattle.trac_image.proofs.Buffers.{laid-next}
 use Rattle.trac_image.specs.Pages.{with_byte}
 
@@ -40,38 +41,75 @@ content-wrote forms meta n p p₁ p₂ p₃ p₄ n_is e₁ e₂ e₃ e₄ =
     (wrote-behind (meta ∷ []) counted p₁ p₂ p₄ e₂
     (wrote-behind (four_bytes (length forms)) (flat_map form_image forms) p₂ p₃ p₄ (e₃ ∙ ap (λ m. wrote (four_bytes m) p₂) n_is) e₄))
 
--- the character of the next item of a body is written
-pub character-wrote : (body : List Item) (i : ℕ) (item : Option Item) (p q : Page) → i < length body → item ≡ slice_get body i → q ≡ wrote (character_text item) p → wrote (text_of (drop (i + 1) body)) q ≡ wrote (text_of (drop i body)) p
-character-wrote body i item p q within is next =
-    rw (next, is, slice_get-get_or body i (Gap 0) within, drop_more body i (Gap 0) within) (go (get_or body i (Gap 0)) (drop (i + 1) body))
-  where
-    go : (item : Item) (rest : List Item) → wrote (text_of rest) (wrote (character_text (Some item)) p) ≡ wrote (text_of (item ∷ rest)) p
-    go (Byte c) rest = refl
-    go (Gap k) rest = refl
+text_of-items : (text : Text) (rest : List Item) → text_of (items_of text ++ rest) ≡ text ++ text_of rest
+text_of-items [] rest = refl
+text_of-items (c ∷ text) rest = ap (λ t. c ∷ t) (text_of-items text rest)
 
--- the gap of the next item of a body is written
-pub gap-wrote : (body : List Item) (i since : ℕ) (item : Option Item) (p q : Page) → i < length body → item ≡ slice_get body i → q ≡ wrote (gap_text since item) p → wrote (gap_bytes (since_behind since item) (drop (i + 1) body)) q ≡ wrote (gap_bytes since (drop i body)) p
-gap-wrote body i since item p q within is next =
-    rw (next, is, slice_get-get_or body i (Gap 0) within, drop_more body i (Gap 0) within) (go (get_or body i (Gap 0)) (drop (i + 1) body))
-  where
-    go : (item : Item) (rest : List Item) → wrote (gap_bytes (since_behind since (Some item)) rest) (wrote (gap_text since (Some item)) p) ≡ wrote (gap_bytes since (item ∷ rest)) p
-    go (Byte c) rest = refl
-    go (Gap k) rest = refl
+gap_bytes-items : (text : Text) (since : ℕ) (rest : List Item) → gap_bytes since (items_of text ++ rest) ≡ gap_bytes (since + length text) rest
+gap_bytes-items [] since rest = ap (λ n. gap_bytes n rest) (let none : since ≡ since + 0 = omega arith in none)
+gap_bytes-items (c ∷ text) since rest =
+    gap_bytes-items text (since + 1) rest ∙ ap (λ n. gap_bytes n rest) (let one : since + 1 + length text ≡ since + length (c ∷ text) = omega arith in one)
 
--- no more characters stand behind the last gap than items were passed
-pub since-few : (since i : ℕ) (item : Option Item) → since ≤ i → since_behind since item ≤ i + 1
-since-few since i None few = omega (arith, few)
-since-few since i (Some (Byte c)) few = omega (arith, few)
-since-few since i (Some (Gap k)) few = omega arith
+a_gap : (item : Item) → is_gap item ≡ true → (k : ℕ) × (item ≡ Gap k)
+a_gap (Byte c) gap = absurd cc
+a_gap (Gap k) gap = (k, refl)
 
--- how many characters an item adds
-pub characters-counted : (body : List Item) (i : ℕ) (item : Option Item) → i < length body → item ≡ slice_get body i → length (text_of (drop i body)) ≡ length (character_text item) + length (text_of (drop (i + 1) body))
-characters-counted body i item within is =
-    rw (is, slice_get-get_or body i (Gap 0) within, drop_more body i (Gap 0) within) (go (get_or body i (Gap 0)) (drop (i + 1) body))
-  where
-    go : (item : Item) (rest : List Item) → length (text_of (item ∷ rest)) ≡ length (character_text (Some item)) + length (text_of rest)
-    go (Byte c) rest = omega arith
-    go (Gap k) rest = omega arith
+-- a place of a body at which a gap stands, or nothing
+module _ (body : List Item) (place : ℕ) (stop : place < length body → gap_at body place ≡ true) where
+  gap-here : place < length body → (k : ℕ) × ((slice_get body place ≡ Some (Gap k)) × (drop place body ≡ Gap k ∷ drop (place + 1) body))
+  gap-here less =
+      let gap = a_gap (get_or body place (Byte 0)) (stop less) in
+      (gap.0, (slice_get-get_or body place (Byte 0) less ∙ ap Some gap.1, drop_more body place (Byte 0) less ∙ ap (λ item. item ∷ drop (place + 1) body) gap.1))
+
+  none-here : length body ≤ place → (drop place body ≡ []) × (drop (place + 1) body ≡ [])
+  none-here past = (drop_all place body past, drop_all (place + 1) body (omega (arith, past)))
+
+  text-behind : text_of (drop place body) ≡ text_of (drop (place + 1) body)
+  text-behind =
+      ⊎_elim (λ some. ap text_of (gap-here some.1).1.1)
+      (λ none. ap text_of ((none-here none.0).0 ∙ sym (none-here none.0).1)) (slice_get_cases body place).1
+
+  -- the gap is written, if one stands there
+  pub gap-wrote : (since : ℕ) (item : Option Item) (p q : Page) → item ≡ slice_get body place → q ≡ wrote (gap_text since item) p → wrote (gap_bytes 0 (drop (place + 1) body)) q ≡ wrote (gap_bytes since (drop place body)) p
+  gap-wrote since item p q is next =
+      ⊎_elim (λ some. rw (next, is, (gap-here some.1).1.0, (gap-here some.1).1.1) refl)
+      (λ none. rw (next, is, none.1, (none-here none.0).0, (none-here none.0).1) refl) (slice_get_cases body place).1
+
+-- characters in a row of a body, from a place on
+module _ (body : List Item) (place count : ℕ) (text : Text) (are : slice_range body place (place + count) ≡ items_of text) (long : length text ≡ count) where
+  in-front : drop place body ≡ items_of text ++ drop (place + count) body
+  in-front =
+      let size : count ≡ place + count - place = omega arith in
+      sym (take-append-drop count (drop place body))
+      ∙ ap (λ items. items ++ drop count (drop place body)) (ap (λ n. take n (drop place body)) size ∙ are)
+      ∙ ap (λ rest. items_of text ++ rest) (drop-drop count place body)
+
+  -- the gap behind them comes behind so many characters
+  pub gaps-behind : gap_bytes 0 (drop place body) ≡ gap_bytes count (drop (place + count) body)
+  gaps-behind =
+      ap (gap_bytes 0) in-front ∙ gap_bytes-items text 0 (drop (place + count) body)
+      ∙ ap (λ n. gap_bytes n (drop (place + count) body)) (let none : 0 + length text ≡ count = omega (arith, long) in none)
+
+  -- what stands behind them, and behind the gap that ends them
+  module _ (stop : place + count < length body → gap_at body (place + count) ≡ true) where
+    abbrev rest : Text
+    rest = text_of (drop (place + (count + 1)) body)
+
+    characters-behind : text_of (drop place body) ≡ text ++ rest
+    characters-behind =
+        ap text_of in-front ∙ text_of-items text (drop (place + count) body)
+        ∙ ap (λ t. text ++ t) (text-behind body (place + count) stop)
+        ∙ ap (λ n. text ++ text_of (drop n body)) (let next : place + count + 1 ≡ place + (count + 1) = omega arith in next)
+
+    -- how many they are
+    pub characters-counted : length (text_of (drop place body)) ≡ count + length (text_of (drop (place + (count + 1)) body))
+    characters-counted =
+        ap length characters-behind ∙ length-append text rest ∙ ap (λ n. n + length rest) long
+
+    -- they are written
+    pub characters-wrote : (p q : Page) → q ≡ wrote text p → wrote (text_of (drop (place + (count + 1)) body)) q ≡ wrote (text_of (drop place body)) p
+    characters-wrote p q next =
+        ap (wrote rest) next ∙ sym (wrote-append text rest p) ∙ ap (λ t. wrote t p) (sym characters-behind)
 
 pub length-text_of : (items : List Item) → length (text_of items) ≤ length items
 length-text_of [] = omega arith

@@ -30,20 +30,8 @@ abbrev pub wrote : Text → Page → Page
 wrote [] p = p
 wrote (byte ∷ text) p = wrote text (with_byte byte p)
 
--- an item's character, if it is one
-abbrev pub character_text : Option Item → Text
-character_text None = []
-character_text (Some (Byte c)) = c ∷ []
-character_text (Some (Gap k)) = []
-
 -- an item's gap, if it is one, behind `since` characters
 abbrev pub gap_text : (since : ℕ) → Option Item → Text
 gap_text since None = []
 gap_text since (Some (Byte c)) = []
 gap_text since (Some (Gap k)) = four_bytes since ++ four_bytes k
-
--- how many characters stand behind the last gap, once an item is passed
-abbrev pub since_behind : (since : ℕ) → Option Item → ℕ
-since_behind since None = since
-since_behind since (Some (Byte c)) = since + 1
-since_behind since (Some (Gap k)) = 0

@@ -5,8 +5,7 @@ ghost use Rattle.trac_space.specs.Texts.{text_of_cells};
 ghost use Rattle.trac_image.specs.Buffers.{Lays};
 ghost use Rattle.trac_image.specs.Image.{form_image, four_bytes, gap_bytes, image_of, sum_bytes};
 ghost use Rattle.trac_image.specs.Image.{two_bytes};
-ghost use Rattle.trac_image.specs.Pages.{character_text, gap_text, page, since_behind};
-ghost use Rattle.trac_image.specs.Pages.{with_byte, wrote};
+ghost use Rattle.trac_image.specs.Pages.{gap_text, page, with_byte, wrote};
 
 use crate::buffer::put;
 use crate::checksum::{Checksum, NO_SUMS};
@@ -72,22 +71,15 @@ fn put_form(form: &StoredForm, at: Written, room: &mut [u8]) -> Written
 fn count_characters(form: &StoredForm) -> u32
     ensures { result ≡ length (text_of form.now.body) }
 {
+    let end = form.body_len();
     let mut count = 0;
-    for i in 0..form.body_len() {
-        count += character_count(form.item(i));
+    let mut place = 0;
+    while place < end {
+        let run = form.run(place, end).len() as u32;
+        count += run;
+        place += run + 1;
     }
     count
-}
-
-/// How many characters an item is: one or none.
-fn character_count(item: Option<Item>) -> u32
-    ensures { result ≡ length (character_text item) }
-{
-    match item {
-        Some(Item::Byte(_)) => 1,
-        Some(Item::Gap(_)) => 0,
-        None => 0,
-    }
 }
 
 /// Puts the characters of cells.
@@ -101,38 +93,33 @@ fn put_cells(cells: &[Cell], at: Written, room: &mut [u8]) -> Written
     at
 }
 
-/// Puts the characters of the body of a form.
+/// Puts the characters of the body of a form: those that stand in a row, up to a gap, one row after the other.
 fn put_characters(form: &StoredForm, at: Written, room: &mut [u8]) -> Written
     ensures { page result room.new ≡ wrote (text_of form.now.body) (page at room.old) }
 {
+    let end = form.body_len();
     let mut at = at;
-    for i in 0..form.body_len() {
-        at = put_character(form.item(i), at, room);
+    let mut place = 0;
+    while place < end {
+        let run = form.run(place, end);
+        at = put_cells(run, at, room);
+        place += run.len() as u32 + 1;
     }
     at
-}
-
-/// Puts an item's character, if it is one.
-fn put_character(item: Option<Item>, at: Written, room: &mut [u8]) -> Written
-    ensures { page result room.new ≡ wrote (character_text item) (page at room.old) }
-{
-    match item {
-        Some(Item::Byte(byte)) => put_byte(byte, at, room),
-        Some(Item::Gap(_)) => at,
-        None => at,
-    }
 }
 
 /// Puts the gaps of the body of a form.
 fn put_gaps(form: &StoredForm, at: Written, room: &mut [u8]) -> Written
     ensures { page result room.new ≡ wrote (gap_bytes 0 form.now.body) (page at room.old) }
 {
+    let end = form.body_len();
     let mut at = at;
-    let mut since = 0;
-    for i in 0..form.body_len() {
-        let item = form.item(i);
-        at = put_gap(item, since, at, room);
-        since = since_behind(item, since);
+    let mut place = 0;
+    while place < end {
+        let since = form.run(place, end).len() as u32;
+        place += since;
+        at = put_gap(form.item(place), since, at, room);
+        place += 1;
     }
     at
 }
@@ -148,18 +135,6 @@ fn put_gap(item: Option<Item>, since: u32, at: Written, room: &mut [u8]) -> Writ
         }
         Some(Item::Byte(_)) => at,
         None => at,
-    }
-}
-
-/// How many characters stand behind the last gap, once an item is passed.
-fn since_behind(item: Option<Item>, since: u32) -> u32
-    requires { since < 4294967295 }
-    ensures { result ≡ since_behind since item }
-{
-    match item {
-        Some(Item::Byte(_)) => since + 1,
-        Some(Item::Gap(_)) => 0,
-        None => since,
     }
 }
 

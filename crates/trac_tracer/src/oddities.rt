@@ -14,6 +14,7 @@ use trac_views::Oddity;
 /// has the name that its function needs, or its value is its default value. `named` is what it
 /// named before it was performed; `pointer` is the pointer of that form afterwards. The value of
 /// arithmetic counts as its default value if it is the same text.
+#[inline(never)]
 pub fn oddity_of(
     named: &Named,
     arguments: &[Cell],

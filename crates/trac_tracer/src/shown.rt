@@ -141,6 +141,7 @@ impl<A: Allocator + Copy> Shown<A> {
     }
 
     // Keeps what must be known of a call after it is performed.
+    #[inline(never)]
     fn look_at_call(&mut self, machine: &Machine, call: CallMark) -> Result<(), AllocError>
         ensures kept { OnOk result (IsKept machine.now.memory self.old.views.width call
             self.new.arguments.items self.new.named self.new.deleted.items) }
@@ -167,6 +168,7 @@ impl<A: Allocator + Copy> Shown<A> {
 
     /// Adds the lines of what a step did. `machine` is the machine after it, `need` the cells that it needed, and
     /// `printed` the bytes that it printed. Fails only if memory runs out.
+    #[inline(never)]
     pub fn add_lines(
         &mut self,
         before: &Before,
@@ -220,6 +222,7 @@ impl<A: Allocator + Copy> Shown<A> {
     }
 
     // Adds that a step was done, and what it dropped.
+    #[inline(never)]
     fn add_step(&mut self, before: &Before, machine: &Machine, need: u32) -> Result<(), AllocError>
         ensures lines { has_steps self.old.views ≡ true → OnOk result (AddsDone self.old.views.width
             before.now need machine.now self.old.lines.items self.new.lines.items) }
@@ -244,6 +247,7 @@ impl<A: Allocator + Copy> Shown<A> {
     }
 
     // Adds the call that a step performed, if it performed one.
+    #[inline(never)]
     fn add_call(
         &mut self,
         before: &Before,
@@ -314,6 +318,7 @@ impl<A: Allocator + Copy> Shown<A> {
     }
 
     // Adds the forms and the meta character, if forms are shown.
+    #[inline(never)]
     fn add_forms(&mut self, machine: &Machine) -> Result<(), AllocError>
         ensures lines { OnOk result (self.new.lines.items ≡
             self.old.lines.items ++ forms_text self.old.views machine.now) }
@@ -332,6 +337,7 @@ impl<A: Allocator + Copy> Shown<A> {
     }
 
     // Adds the lines on a fault, if one ended the run.
+    #[inline(never)]
     fn add_fault(&mut self, fate: Fate, machine: &Machine) -> Result<(), AllocError>
         ensures { OnOk result (AddsWhere (is_fault fate) self.old.views.width machine.now
             self.old.lines.items self.new.lines.items) }

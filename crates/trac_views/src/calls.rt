@@ -50,6 +50,7 @@ pub struct Called<'a> {
 /// Adds the line of a call: its step, the call, indented by the calls that are open around it, its
 /// value, what it printed, the forms that it changed, and what is odd about it. Fails only if
 /// memory runs out.
+#[inline(never)]
 pub fn push_call<A: Allocator + Copy>(
     line: &mut Vec<u8, A>,
     alloc: A,

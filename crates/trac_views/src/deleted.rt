@@ -15,6 +15,7 @@ use trac_language::Concerned;
 /// Adds the names of the forms that a call with these arguments deletes: those of the arguments, in
 /// their order, or all forms, in the order of their definition. `touched` says which. Fails only if
 /// memory runs out.
+#[inline(never)]
 pub fn push_deleted<A: Allocator + Copy>(
     line: &mut Vec<u8, A>,
     alloc: A,

@@ -31,6 +31,7 @@ pub fn is_fault(fate: Fate) -> bool
 /// Adds the lines on a fault: the step that was not done, where the string that was read last
 /// began, the innermost open calls, the largest forms, and the cells of each part of the block.
 /// Fails only if memory runs out.
+#[inline(never)]
 pub fn push_fault<A: Allocator + Copy>(
     lines: &mut Vec<u8, A>,
     alloc: A,

@@ -21,6 +21,7 @@ pub struct SizedForm {
 
 /// Adds the lines of the five largest forms with their cells, the largest first. Of two that are
 /// equally large, the one that was defined first comes first. Fails only if memory runs out.
+#[inline(never)]
 pub fn push_largest_forms<A: Allocator + Copy>(
     lines: &mut Vec<u8, A>,
     alloc: A,

@@ -55,6 +55,7 @@ pub fn head(views: &Views) -> &'static [u8]
 
 /// Adds the line of a step, with the cells of both strings after it, each cut to `width` cells
 /// unless that is 0. Fails only if memory runs out.
+#[inline(never)]
 pub fn push_step<A: Allocator>(
     line: &mut Vec<u8, A>,
     step: &Step,

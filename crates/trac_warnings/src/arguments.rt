@@ -19,6 +19,7 @@ use trac_space::Cell;
 
 /// Looks at the arguments that `cl` gives a form: at their number, if a gap gets none; else at the first for which the
 /// form has no gap. An error means that memory ran out.
+#[inline(never)]
 #[tactic(auto, using(crate::proofs::Keeping::keeping))]
 pub(crate) fn look_at_arguments<A: Allocator + Copy>(
     warnings: &mut Vec<Warning<A>, A>,

@@ -17,6 +17,7 @@ use trac_language::Function;
 use trac_space::Cell;
 
 /// Looks at the form whose body a call gives, takes apart or segments. An error means that memory ran out.
+#[inline(never)]
 #[tactic(auto, using(crate::proofs::Keeping::keeping))]
 pub(crate) fn look_at_body<A: Allocator + Copy>(
     warnings: &mut Vec<Warning<A>, A>,
@@ -98,6 +99,7 @@ fn takes_next(function: Function) -> bool
 
 // Looks at the form that `cl` calls: at the arguments that it gets, or, if its pointer was moved, at what is left of
 // it.
+#[inline(never)]
 #[tactic(auto, using(crate::proofs::Keeping::keeping))]
 fn look_at_called<A: Allocator + Copy>(
     warnings: &mut Vec<Warning<A>, A>,

@@ -15,6 +15,7 @@ use trac_space::Cell;
 /// Adds the calls in a script whose names no function has, and are nearly those of functions. They are for calls
 /// that were never performed: an unknown name in a call that is performed is warned of then. Fails only if memory
 /// runs out.
+#[inline(never)]
 #[tactic(auto, using(crate::proofs::Keeping::keeping))]
 pub fn look_at_names<A: Allocator + Copy>(
     warnings: &mut Vec<Warning<A>, A>,

@@ -40,6 +40,7 @@ fn is_left_out(name: &[Cell]) -> bool
 
 /// Whether a name stands in the input as an argument: behind a comma, and before another one or a right
 /// parenthesis.
+#[inline(never)]
 pub(crate) fn is_written(name: &[Cell], input: &[u8]) -> bool
     ensures { result ≡ is_written (text_of_cells name.now) input.now }
 {
@@ -81,6 +82,7 @@ fn behind_name<'b>(name: &[Cell], bytes: &'b [u8]) -> &'b [u8]
 }
 
 /// Whether a call of `cl` without an argument, for the form of a name, stands in the input.
+#[inline(never)]
 pub(crate) fn is_called_alone(name: &[Cell], input: &[u8]) -> bool
     ensures { result ≡ is_called_alone (text_of_cells name.now) input.now }
 {

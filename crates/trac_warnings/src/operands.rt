@@ -22,6 +22,7 @@ use trac_space::{Cell, character_of};
 
 /// Looks at the first argument in which something is suspicious, if a call of this function takes its
 /// arguments for numbers. An error means that memory ran out.
+#[inline(never)]
 #[tactic(auto, using(crate::proofs::Keeping::keeping))]
 pub(crate) fn look_at_operands<A: Allocator + Copy>(
     warnings: &mut Vec<Warning<A>, A>,
@@ -125,6 +126,7 @@ fn are_digits(cells: &[Cell]) -> bool
 }
 
 /// Looks at the two texts that a call compares. An error means that memory ran out.
+#[inline(never)]
 #[tactic(auto, using(crate::proofs::Keeping::keeping))]
 pub(crate) fn look_at_sides<A: Allocator + Copy>(
     warnings: &mut Vec<Warning<A>, A>,
@@ -148,6 +150,7 @@ pub(crate) fn look_at_sides<A: Allocator + Copy>(
 
 /// Looks at a call that adds, subtracts or multiplies, and in which a comma seems to part a number. An error means
 /// that memory ran out.
+#[inline(never)]
 #[tactic(auto, using(crate::proofs::Keeping::keeping))]
 pub(crate) fn look_at_thousands<A: Allocator + Copy>(
     warnings: &mut Vec<Warning<A>, A>,

@@ -41,6 +41,7 @@ pub struct Ending<'a> {
 
 /// Adds what is suspicious in a call that a machine is about to perform. An error means that memory ran out;
 /// the earlier warnings stay.
+#[inline(never)]
 #[tactic(auto, using(crate::proofs::Keeping::keeping))]
 pub fn look_at_call<A: Allocator + Copy>(
     warnings: &mut Vec<Warning<A>, A>,
@@ -67,6 +68,7 @@ pub fn look_at_call<A: Allocator + Copy>(
 }
 
 // Looks at the texts that a call compares, or computes with, or that it prints, or that has the new meta character.
+#[inline(never)]
 #[tactic(auto, using(crate::proofs::Keeping::keeping))]
 fn look_at_given<A: Allocator + Copy>(
     warnings: &mut Vec<Warning<A>, A>,
@@ -85,6 +87,7 @@ fn look_at_given<A: Allocator + Copy>(
 }
 
 // What is suspicious in a name that is no function's; if a form has the name, the warning says so.
+#[inline(never)]
 fn suspicion_of_call(machine: &Machine, name: &[Cell]) -> Option<Suspicion>
     ensures { result ≡ suspicion_of_call machine.now.memory.forms name.now }
 {
@@ -100,6 +103,7 @@ fn suspicion_of_call(machine: &Machine, name: &[Cell]) -> Option<Suspicion>
 
 // Looks at the first argument that a function ignores, if it isn't null and was written in the same text as
 // the call.
+#[inline(never)]
 #[tactic(auto, using(crate::proofs::Keeping::keeping))]
 fn look_at_ignored<A: Allocator + Copy>(
     warnings: &mut Vec<Warning<A>, A>,
@@ -144,6 +148,7 @@ pub(crate) fn written_with(place: Option<Origin>, ending: &Ending, cells: &[Cell
 }
 
 // Looks at a call that ends the run, reads, prints or changes forms inside another call.
+#[inline(never)]
 #[tactic(auto, using(crate::proofs::Keeping::keeping))]
 fn look_at_nesting<A: Allocator + Copy>(
     warnings: &mut Vec<Warning<A>, A>,
@@ -217,6 +222,7 @@ pub fn commas_in(cells: &[Cell]) -> u32
 }
 
 // Looks at the form that a call names.
+#[inline(never)]
 #[tactic(auto, using(crate::proofs::Keeping::keeping))]
 fn look_at_form<A: Allocator + Copy>(
     warnings: &mut Vec<Warning<A>, A>,
@@ -240,6 +246,7 @@ fn look_at_form<A: Allocator + Copy>(
 }
 
 // Looks at a name that no form has.
+#[inline(never)]
 #[tactic(auto, using(crate::proofs::Keeping::keeping))]
 fn look_at_missing<A: Allocator + Copy>(
     warnings: &mut Vec<Warning<A>, A>,

@@ -17,6 +17,7 @@ use trac_language::Function;
 use trac_space::{Cell, character_of};
 
 /// Looks at what a call prints: whether its first call of a function ends it. An error means that memory ran out.
+#[inline(never)]
 #[tactic(auto, using(crate::proofs::Keeping::keeping))]
 pub(crate) fn look_at_print<A: Allocator + Copy>(
     warnings: &mut Vec<Warning<A>, A>,
@@ -119,6 +120,7 @@ fn closes_at_end(text: &[u8]) -> bool
 }
 
 /// Looks at a call that makes a character of a line end the meta character. An error means that memory ran out.
+#[inline(never)]
 #[tactic(auto, using(crate::proofs::Keeping::keeping))]
 pub(crate) fn look_at_meta_change<A: Allocator + Copy>(
     warnings: &mut Vec<Warning<A>, A>,

@@ -21,6 +21,7 @@ use trac_events::argument;
 use trac_space::{Cell, character_of};
 
 /// Looks at the texts of a call of `ss`, whose form has these items. An error means that memory ran out.
+#[inline(never)]
 #[tactic(auto, using(crate::proofs::Keeping::keeping))]
 pub(crate) fn look_at_texts<A: Allocator + Copy>(
     warnings: &mut Vec<Warning<A>, A>,
@@ -83,6 +84,7 @@ fn suspicion_of_gap(text: &[Cell], k: u32, items: &[Item]) -> Option<Suspicion>
 
 /// Looks for the texts of a call of `ss` in its form, which has this name and these items. An error means that
 /// memory ran out.
+#[inline(never)]
 #[tactic(auto, using(crate::proofs::Keeping::keeping))]
 pub(crate) fn look_for_texts<A: Allocator + Copy>(
     warnings: &mut Vec<Warning<A>, A>,

@@ -198,6 +198,7 @@ impl<A: Allocator + Copy> Watch<A> {
 
     // Looks at what a step did, by its rule, and left in the strings. The first character of the active string was
     // written at `origin` before it.
+    #[inline(never)]
     fn warn_of_rule(
         &mut self,
         before: &Before,

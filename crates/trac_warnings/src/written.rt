@@ -19,6 +19,7 @@ use trac_core::is_layout;
 const FEW_LINES: usize = 3;
 
 /// Adds what is suspicious in how a script is written. Fails only if memory runs out.
+#[inline(never)]
 #[tactic(auto, using(crate::proofs::Keeping::keeping))]
 pub fn look_at_script<A: Allocator + Copy>(
     warnings: &mut Vec<Warning<A>, A>,
@@ -82,6 +83,7 @@ pub(crate) fn curly_end(text: &[u8]) -> Option<usize>
 }
 
 // Looks for numbers at the heads of lines.
+#[inline(never)]
 #[tactic(auto, using(crate::proofs::Keeping::keeping))]
 fn look_at_lines<A: Allocator + Copy>(
     warnings: &mut Vec<Warning<A>, A>,
@@ -131,6 +133,7 @@ fn behind_digits(line: &[u8]) -> &[u8]
 }
 
 // Looks for what is nearly the beginning of a call. Each parenthesis gets one warning at most.
+#[inline(never)]
 #[tactic(auto, using(crate::proofs::Keeping::keeping))]
 fn look_at_spelling<A: Allocator + Copy>(
     warnings: &mut Vec<Warning<A>, A>,

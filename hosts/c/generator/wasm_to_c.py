@@ -151,6 +151,25 @@ def keep_exports_of_c(module):
     module.functions = [function for function in module.functions if function[0] in kept]
 
 
+def hands_on(body, inner, count):
+    """Whether a body does nothing but hand its parameters, so many, on to a function, and give what that gives."""
+    whole = [['local.get', str(i)] for i in range(count)] + [['call', inner]]
+    end = [words[0] for words in body[len(whole):]]
+    return body[:len(whole)] == whole and (
+        not end or end == ['local.set', 'local.get'] and body[-2][1] == body[-1][1])
+
+
+def merge_exports(module):
+    """Gives each export the body of the function of the source, to which it hands its parameters on."""
+    functions = {name: (kinds, body) for name, kinds, body in module.functions}
+    called = sum((Counter(words[1] for words in body if words[0] == 'call') for _, body in functions.values()), Counter())
+    for name in module.exports:
+        inner = f'$rattle::export_{name.strip("$")}'
+        if called[inner] == 1 and hands_on(without_guards(functions[name][1]), inner, len(module.heads[name].params)):
+            functions[name] = functions.pop(inner)
+    module.functions = [(name, *function) for name, function in functions.items()]
+
+
 def functions_of(module, sources=None):
     """The functions of a module by their names there, with all that is known of them."""
     refuse_circles(module)
@@ -194,6 +213,7 @@ def print_instructions(functions):
 def main(path, other):
     module = module_of(lines_of(path), lines_of(other))
     keep_exports_of_c(module)
+    merge_exports(module)
     pieces = pieces_of(module, Sources())
     of_check, of_runs = reached(module, CHECK), reached(module, {*module.exports} - CHECK)
     for name, c_name in module.names.items():

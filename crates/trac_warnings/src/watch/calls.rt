@@ -25,6 +25,7 @@ use trac_space::{Cell, character_of};
 #[tactic(auto, using(crate::proofs::Keeping::keeping))]
 impl<A: Allocator + Copy> Watch<A> {
     // Looks at the call that ends, and at the right parenthesis that ends it.
+    #[inline(never)]
     pub(super) fn look_at_end_of_call(
         &mut self,
         before: &Before,
@@ -59,6 +60,7 @@ impl<A: Allocator + Copy> Watch<A> {
     }
 
     // Looks at the innermost call, whose mark stands at this place of the neutral string.
+    #[inline(never)]
     fn look_at_call(
         &mut self,
         machine: &Machine,
@@ -119,6 +121,7 @@ impl<A: Allocator + Copy> Watch<A> {
     }
 
     // Warns of a left parenthesis that has no match, with the characters of its string that are dropped.
+    #[inline(never)]
     pub(super) fn warn_of_protection(
         &mut self,
         before: &Before,
@@ -147,6 +150,7 @@ impl<A: Allocator + Copy> Watch<A> {
     }
 
     // Looks at a call that was performed. Afterwards the strings have `active` and `neutral` cells.
+    #[inline(never)]
     pub(super) fn warn_of_call(
         &mut self,
         before: &Before,
@@ -170,6 +174,7 @@ impl<A: Allocator + Copy> Watch<A> {
 
     // Warns of a call of arithmetic that has no result, unless something is suspicious in what it computes
     // with.
+    #[inline(never)]
     fn warn_of_result(
         &mut self,
         before: &Before,
@@ -208,6 +213,7 @@ impl<A: Allocator + Copy> Watch<A> {
     }
 
     // Forgets the innermost call. A string that was read in it then belongs to the call around it.
+    #[inline(never)]
     fn close_call(&mut self) -> Result<(), AllocError>
         ensures calls { OnOk result (self.new.calls.items ≡ without_last self.old.calls.items) }
         ensures strings { OnOk result (reverse self.new.strings.items ≡

@@ -33,6 +33,7 @@ impl<A: Allocator + Copy> Watch<A> {
     /// ended, with the form that was called most often, if that was 100 times or more, and the three innermost calls
     /// that were open. `input` has at least the bytes that the machine has read. That a fault is told so is this
     /// processor's own choice. Fails only if memory runs out.
+    #[inline(never)]
     pub fn warn_of_fault(
         &self,
         warnings: &mut Vec<Warning<A>, A>,

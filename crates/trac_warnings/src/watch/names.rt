@@ -32,6 +32,7 @@ impl<A: Allocator + Copy> Watch<A> {
 
     // Where the value of the call that the step performs was written, if it comes from a form; else
     // where the call was written.
+    #[inline(never)]
     pub(super) fn origin_of_form(
         &self,
         machine: &Machine,
@@ -51,6 +52,7 @@ impl<A: Allocator + Copy> Watch<A> {
     }
 
     // Where what the step puts in front of the active string was written.
+    #[inline(never)]
     pub(super) fn value_origin(&self, before: &Before, machine: &Machine) -> Origin
         ensures { reads before.now.awaits ≡ true → result ≡ in_input self.now.read }
     {
@@ -84,6 +86,7 @@ impl<A: Allocator + Copy> Watch<A> {
     }
 
     // Keeps which form a call defined, if it defined one; and counts the call, if it is one of `cl`.
+    #[inline(never)]
     pub(super) fn keep_form(&mut self) -> Result<(), AllocError>
         ensures stays { KeepsNames self.old self.new }
         ensures counts { OnOk result (counts_of self.new.written.entries ≡ counts_behind_call self.old) }

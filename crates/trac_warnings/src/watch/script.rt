@@ -24,6 +24,7 @@ use trac_space::Cell;
 #[tactic(auto, using(crate::proofs::Keeping::keeping))]
 impl<A: Allocator + Copy> Watch<A> {
     // Looks at what a step read: its value, behind which `active` cells stand in the active string.
+    #[inline(never)]
     pub(super) fn warn_of_read(
         &mut self,
         before: &Before,
@@ -64,6 +65,7 @@ impl<A: Allocator + Copy> Watch<A> {
 
     // Follows the active string over a step, which may have put a value there that was written at
     // `value`.
+    #[inline(never)]
     pub(super) fn move_on(
         &mut self,
         before: &Before,

@@ -1,7 +1,13 @@
-use Rattle.trac_image.proofs.Imports.{◌∙◌, arith, page}
-use Rattle.trac_image.proofs.Pages.{character-wrote}
+use Rattle.trac_image.proofs.Imports.{◌∙◌, arith, length, length-map, page}
+use Rattle.trac_space.specs.Texts.{character_of, text_of_cells}
+use Rattle.trac_image.proofs.Pages.{characters-wrote}
 use Rattle.trac_image.proofs.saving.put_characters.Goals as goal
 
-pub loop-i-preserved : goal.loop-i-preserved
-loop-i-preserved c =
-    character-wrote c.args.form.now.body c.loop-i.i c.item.result (page c.loop-i.at c.loop-i.room) _ (omega arith) c.item.ensures c.put_character-at.ensures ∙ c.loop-i.invariant
+pub loop-place-preserved : goal.loop-place-preserved
+loop-place-preserved c =
+    let cells = c.run-run.result.now in
+    let end = c.body_len-end.ensures in
+    record {
+      below = omega (arith, c.run-run.ensures.few, end.value);
+      wrote = characters-wrote c.args.form.now.body c.loop-place.place (length cells) (text_of_cells cells) c.run-run.ensures.items (length-map cells character_of) (λ less. c.run-run.ensures.stop (omega (arith, less, end.value))) (page c.loop-place.at c.loop-place.room) _ c.put_cells-at.ensures ∙ c.loop-place.invariant.wrote;
+    }

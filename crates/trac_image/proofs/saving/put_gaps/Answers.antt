@@ -1,15 +1,17 @@
-use Rattle.trac_image.proofs.Imports.{◌∙◌, ◌+◌, ap, arith, drop, gap_bytes, page, subst, sym, wrote, ◌≤◌}
-use Rattle.trac_image.proofs.Pages.{gap-wrote, since-few}
+use Rattle.trac_image.proofs.Imports.{◌+◌, ◌∙◌, ap, arith, length, length-map, page, sym, wrote}
+use Rattle.trac_space.specs.Texts.{character_of, text_of_cells}
+use Rattle.trac_image.proofs.Pages.{gap-wrote, gaps-behind}
 use Rattle.trac_image.proofs.saving.put_gaps.Goals as goal
 
-pub since_behind-since-requires : goal.since_behind-since-requires
-since_behind-since-requires c = omega (arith, c.loop-i.invariant.few, c.body_len-i-end.ensures.bounded)
-
-pub loop-i-preserved : goal.loop-i-preserved
-loop-i-preserved c =
+pub loop-place-preserved : goal.loop-place-preserved
+loop-place-preserved c =
     let body = c.args.form.now.body in
-    let i = c.loop-i.i in
+    let cells = c.run.result.now in
+    let place = c.loop-place.place in
+    let end = c.body_len-end.ensures in
+    let at = page c.loop-place.at c.loop-place.room in
+    let behind = gaps-behind body place (length cells) (text_of_cells cells) c.run.ensures.items (length-map cells character_of) in
     record {
-      wrote = ap (λ n. wrote (gap_bytes n (drop (i + 1) body)) (page c.put_gap-at.result c.put_gap-at.new.room)) c.since_behind-since.ensures ∙ gap-wrote body i c.loop-i.since c.item-item.result (page c.loop-i.at c.loop-i.room) _ (omega arith) c.item-item.ensures c.put_gap-at.ensures ∙ c.loop-i.invariant.wrote;
-      few = subst (λ n. n ≤ i + 1) (sym c.since_behind-since.ensures) (since-few c.loop-i.since i c.item-item.result c.loop-i.invariant.few);
+      below = omega (arith, c.run.ensures.few, end.value);
+      wrote = gap-wrote body (place + length cells) (λ less. c.run.ensures.stop (omega (arith, less, end.value))) (length cells) c.item.result at _ c.item.ensures c.put_gap-at.ensures ∙ ap (λ t. wrote t at) (sym behind) ∙ c.loop-place.invariant.wrote;
     }
