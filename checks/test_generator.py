@@ -62,6 +62,7 @@ class Translation:
             tool('wat2wasm', '--enable-memory64', '--debug-names', '-o', file, '-', input=text)
         lines, same = (tool('wasm2wat', '--enable-memory64', file).splitlines() for file in self.files)
         module = wasm_to_c.module_of(lines, same)
+        wasm_to_c.merge_exports(module)
         self.pieces = wasm_to_c.pieces_of(module)
         for piece in self.pieces.values():
             piece.bits = piece.known = 1 << 1
@@ -222,6 +223,23 @@ class Crafted(unittest.TestCase):
     def test_a_text_that_looks_like_a_comment(self):
         made = translated(crafted('(i64.load8_u offset={tables+1} (i64.const 0))'), lambda at: b'a;;b(;c;)')
         self.assertIn('97, 59, 59, 98, 40, 59, 99, 59, 41', made.text)
+
+    # ---- Exports
+
+    def test_an_export_that_hands_its_parameters_on(self):
+        inner, none, one, two = '$rattle::export_f', '0' * 16, '0' * 15 + '1', '0' * 15 + '2'
+        more = f'(func {inner} (param i64 i32 i64) (result i64) (i64.extend_i32_u (local.get 1)))'
+        handed, turned = (f'(call {inner} {" ".join(f"(local.get {i})" for i in order)})'
+                          for order in ((0, 1, 2), (2, 1, 0)))
+        for body, is_merged, results in (
+                (handed, True, (none, one)), (turned, False, (none, one)),
+                (f'(i64.add {handed} (i64.const 1))', False, (one, two)),
+                (f'(i64.sub {handed} {handed})', False, (none, none))):
+            with self.subTest(body=body):
+                made = self.gives(body, *results, more=more)
+                self.assertEqual('rattle_export_f' not in made.pieces, is_merged)
+        more += f'(func $g (export "g") (param i64 i32 i64) (result i64) {turned})'
+        self.assertIn('rattle_export_f', self.gives(handed, none, one, more=more).pieces)
 
     # ---- The stack
 

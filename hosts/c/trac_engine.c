@@ -4,7 +4,7 @@
  * and what compilers make of it (memcpy, memset) alone.
  *
  * Crates: trac_language trac_space trac_values trac_store trac_forms trac_devices trac_functions trac_laws trac_core trac_image trac_events trac_warnings trac_lent trac_views trac_tracer trac_checker trac_c
- * Sources: ca3cc188879b28a953a2adba80e52ee4b36fa92f88f5960ac20d147e2d128906
+ * Sources: dbca9b9b926510b12622baedef39a79ab22aa267034066094cd9f1b05d098ac6
  * Kit: rattle-kit-13b logic dac8208d650f15bf
  * Tools: wasm-opt version 108, wabt 1.0.32
  */

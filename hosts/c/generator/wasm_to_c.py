@@ -162,10 +162,10 @@ def hands_on(body, inner, count):
 def merge_exports(module):
     """Gives each export the body of the function of the source, to which it hands its parameters on."""
     functions = {name: (kinds, body) for name, kinds, body in module.functions}
-    called = sum((Counter(words[1] for words in body if words[0] == 'call') for _, body in functions.values()), Counter())
+    called = [words[1] for _, body in functions.values() for words in body if words[0] == 'call']
     for name in module.exports:
-        inner = f'$rattle::export_{name.strip("$")}'
-        if called[inner] == 1 and hands_on(without_guards(functions[name][1]), inner, len(module.heads[name].params)):
+        inner, body = f'$rattle::export_{name.strip("$")}', without_guards(functions[name][1])
+        if called.count(inner) == 1 and hands_on(body, inner, len(module.heads[name].params)):
             functions[name] = functions.pop(inner)
     module.functions = [(name, *function) for name, function in functions.items()]
 
