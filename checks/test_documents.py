@@ -1,6 +1,6 @@
-"""The documents: each link leads to an existing file and heading, the guides name only existing files of the sources,
-the words are spelt correctly, the page of the library has each fate, and the index of the checks names each file of
-checks/ once, under the target of the Makefile that runs it."""
+"""The documents: each link leads to an existing file and heading, the guides name only existing files of the sources
+and, on the way of a byte, existing functions, the words are spelt correctly, the page of the library has each fate, and
+the index of the checks names each file of checks/ once, under the target of the Makefile that runs it."""
 import glob
 import os
 import re
@@ -65,6 +65,17 @@ class Documents(unittest.TestCase):
             self.assertGreater(len(named), 3, guide)
             missing = {name for name in named if not any(f'/{path}'.endswith(f'/{name}') for path in paths)}
             self.assertEqual(missing, set(), guide)
+
+    def test_the_way_of_a_byte(self):
+        _, _, way = read(os.path.join(TOP, 'docs', 'ARCHITECTURE.md')).partition('## The way of a byte')
+        count, rows = re.search(r'crosses (\d+) functions on this way:(.*?)\n## ', way, re.DOTALL).groups()
+        crossed = [(file, name) for file, names in re.findall(r'`(\w+\.rt)`: ([^;|]*)', rows)
+                   for name in re.findall(r'`(\w+)`', names)]
+        self.assertEqual(len(crossed), int(count))
+        for file, name in crossed:
+            with self.subTest(file=file, function=name):
+                there = glob.glob(os.path.join(TOP, 'crates', '*', 'src', '**', file), recursive=True)
+                self.assertTrue(any(re.search(rf'\bfn {name}\b', read(path)) for path in there))
 
     def test_spelling(self):
         pages = documents() + glob.glob(os.path.join(TOP, 'docs', '*.[0-9]'))
