@@ -7,6 +7,7 @@ pub mod Noted
 pub mod Plain
 pub mod Said
 pub mod Searched
+pub mod Trimming
 pub mod Looked
 pub mod Seen
 pub mod Signs

@@ -48,6 +48,7 @@ abbrev pub KeepsPlaces : {A : Type 0} → Watch A → Watch A → Type 0
 KeepsPlaces old new = new ≡ record old {
   warnings = new.warnings;
   arguments = new.arguments;
+  given = new.given;
   value = new.value;
   neutral = new.neutral;
 }

@@ -24,8 +24,19 @@ fn behind_blanks(cells: &[Cell]) -> &[Cell]
     &[]
 }
 
-// The cells before the blanks and the layout at their end.
+// The cells before the blanks and the layout at their end. Most texts have none there.
 fn before_blanks(cells: &[Cell]) -> &[Cell]
+    ensures { result.now ≡ before_blanks cells.now }
+{
+    match cells {
+        [.., last] if !is_blank(last) => cells,
+        _ => before_last_blanks(cells),
+    }
+}
+
+// The cells before the blanks and the layout at their end, found from their head.
+#[inline(never)]
+fn before_last_blanks(cells: &[Cell]) -> &[Cell]
     ensures { result.now ≡ before_blanks cells.now }
 {
     let mut end: usize = 0;

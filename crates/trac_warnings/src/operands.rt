@@ -1,5 +1,5 @@
 //! What is suspicious in the texts that a call computes with or compares.
-ghost use Rattle.std.specs.Prelude.{◌≡◌, OnOk};
+ghost use Rattle.std.specs.Prelude.{◌≡◌, true, OnOk};
 ghost use Rattle.trac_space.specs.Texts.{text_of_cells};
 ghost use Rattle.std.specs.Char.{is_ascii_digit};
 ghost use Rattle.std.specs.List.{list_all};
@@ -22,7 +22,7 @@ use trac_space::{Cell, character_of};
 
 /// Looks at the first argument in which something is suspicious, if a call of this function takes its
 /// arguments for numbers. An error means that memory ran out.
-#[inline(never)]
+#[inline(always)]
 #[tactic(auto, using(crate::proofs::Keeping::keeping))]
 pub(crate) fn look_at_operands<A: Allocator + Copy>(
     warnings: &mut Vec<Warning<A>, A>,
@@ -38,6 +38,24 @@ pub(crate) fn look_at_operands<A: Allocator + Copy>(
     if !takes_numbers(function) {
         return Ok(());
     }
+    look_at_numbers(warnings, alloc, machine, function, ending)
+}
+
+// Looks at the first argument in which something is suspicious of a call that takes its arguments for numbers.
+#[inline(never)]
+#[tactic(auto, using(crate::proofs::Keeping::keeping))]
+fn look_at_numbers<A: Allocator + Copy>(
+    warnings: &mut Vec<Warning<A>, A>,
+    alloc: A,
+    machine: &Machine,
+    function: Function,
+    ending: &Ending,
+) -> Result<(), AllocError>
+    requires { takes_numbers function ≡ true }
+    ensures kept { Kept warnings.old.items warnings.new.items }
+    ensures said { OnOk result (Warns warnings.old.items warnings.new.items
+        (operand_warnings function machine.now.memory.forms ending.now)) }
+{
     let first = argument(ending.arguments, 1);
     if let Some(suspicion) = operand_among(machine, first) {
         return warn(warnings, alloc, suspicion, ending.begin, first);
@@ -126,7 +144,7 @@ fn are_digits(cells: &[Cell]) -> bool
 }
 
 /// Looks at the two texts that a call compares. An error means that memory ran out.
-#[inline(never)]
+#[inline(always)]
 #[tactic(auto, using(crate::proofs::Keeping::keeping))]
 pub(crate) fn look_at_sides<A: Allocator + Copy>(
     warnings: &mut Vec<Warning<A>, A>,
@@ -141,6 +159,23 @@ pub(crate) fn look_at_sides<A: Allocator + Copy>(
     if !compares_texts(function) {
         return Ok(());
     }
+    look_at_both(warnings, alloc, function, ending)
+}
+
+// Looks at the two texts of a call that compares texts.
+#[inline(never)]
+#[tactic(auto, using(crate::proofs::Keeping::keeping))]
+fn look_at_both<A: Allocator + Copy>(
+    warnings: &mut Vec<Warning<A>, A>,
+    alloc: A,
+    function: Function,
+    ending: &Ending,
+) -> Result<(), AllocError>
+    requires { compares_texts function ≡ true }
+    ensures kept { Kept warnings.old.items warnings.new.items }
+    ensures said { OnOk result (Warns warnings.old.items warnings.new.items
+        (side_warnings function ending.now)) }
+{
     let one = argument(ending.arguments, 1);
     match suspicion_of_sides(one, argument(ending.arguments, 2)) {
         Some(suspicion) => warn(warnings, alloc, suspicion, ending.begin, one),
@@ -150,7 +185,7 @@ pub(crate) fn look_at_sides<A: Allocator + Copy>(
 
 /// Looks at a call that adds, subtracts or multiplies, and in which a comma seems to part a number. An error means
 /// that memory ran out.
-#[inline(never)]
+#[inline(always)]
 #[tactic(auto, using(crate::proofs::Keeping::keeping))]
 pub(crate) fn look_at_thousands<A: Allocator + Copy>(
     warnings: &mut Vec<Warning<A>, A>,
@@ -187,6 +222,7 @@ fn adds(function: Function) -> bool
 
 // Whether a comma seems to part one of the numbers of a call: it has a third number, and one has three digits and
 // stands behind one of at most three.
+#[inline(never)]
 fn parts_number(arguments: &[Cell]) -> bool
     ensures { result ≡ parts_number arguments.now }
 {

@@ -1,5 +1,5 @@
 //! What is suspicious in a call that is about to be performed.
-ghost use Rattle.std.specs.Prelude.{◌≡◌, ◌<◌, ◌-◌, ◌^◌, IfOk, OnOk};
+ghost use Rattle.std.specs.Prelude.{◌≡◌, ◌<◌, ◌-◌, ◌^◌, true, IfOk, OnOk};
 ghost use Rattle.trac_space.specs.Texts.{text_of_cells};
 ghost use Rattle.trac_language.specs.Table.{traits};
 ghost use Rattle.trac_warnings.specs.Performed.{Warns, acts, call_warnings, commas_of, form_warnings};
@@ -68,7 +68,7 @@ pub fn look_at_call<A: Allocator + Copy>(
 }
 
 // Looks at the texts that a call compares, or computes with, or that it prints, or that has the new meta character.
-#[inline(never)]
+#[inline(always)]
 #[tactic(auto, using(crate::proofs::Keeping::keeping))]
 fn look_at_given<A: Allocator + Copy>(
     warnings: &mut Vec<Warning<A>, A>,
@@ -103,7 +103,7 @@ fn suspicion_of_call(machine: &Machine, name: &[Cell]) -> Option<Suspicion>
 
 // Looks at the first argument that a function ignores, if it isn't null and was written in the same text as
 // the call.
-#[inline(never)]
+#[inline(always)]
 #[tactic(auto, using(crate::proofs::Keeping::keeping))]
 fn look_at_ignored<A: Allocator + Copy>(
     warnings: &mut Vec<Warning<A>, A>,
@@ -127,6 +127,7 @@ fn look_at_ignored<A: Allocator + Copy>(
 
 // Where argument `most` + 1 was written. None if it is null or wasn't written in the same text as the
 // call.
+#[inline(always)]
 fn ignored_place(most: u32, ending: &Ending) -> Option<Origin>
     requires { most < 2 ^ 32 - 1 }
     ensures { result ≡ ignored_place most ending.now }
@@ -148,7 +149,7 @@ pub(crate) fn written_with(place: Option<Origin>, ending: &Ending, cells: &[Cell
 }
 
 // Looks at a call that ends the run, reads, prints or changes forms inside another call.
-#[inline(never)]
+#[inline(always)]
 #[tactic(auto, using(crate::proofs::Keeping::keeping))]
 fn look_at_nesting<A: Allocator + Copy>(
     warnings: &mut Vec<Warning<A>, A>,
@@ -163,6 +164,23 @@ fn look_at_nesting<A: Allocator + Copy>(
     if !ending.is_inside {
         return Ok(());
     }
+    warn_of_nesting(warnings, alloc, function, ending)
+}
+
+// Warns of a call inside another one if it ends the run, or if it reads, prints or changes forms in vain.
+#[inline(never)]
+#[tactic(auto, using(crate::proofs::Keeping::keeping))]
+fn warn_of_nesting<A: Allocator + Copy>(
+    warnings: &mut Vec<Warning<A>, A>,
+    alloc: A,
+    function: Function,
+    ending: &Ending,
+) -> Result<(), AllocError>
+    requires { ending.now.is_inside ≡ true }
+    ensures kept { Kept warnings.old.items warnings.new.items }
+    ensures said { OnOk result (Warns warnings.old.items warnings.new.items
+        (nested function ending.now)) }
+{
     let Some(suspicion) = suspicion_inside(function, ending.around) else {
         return Ok(());
     };
@@ -222,7 +240,7 @@ pub fn commas_in(cells: &[Cell]) -> u32
 }
 
 // Looks at the form that a call names.
-#[inline(never)]
+#[inline(always)]
 #[tactic(auto, using(crate::proofs::Keeping::keeping))]
 fn look_at_form<A: Allocator + Copy>(
     warnings: &mut Vec<Warning<A>, A>,
@@ -238,6 +256,24 @@ fn look_at_form<A: Allocator + Copy>(
     if !traits_of(function).needs_form {
         return Ok(());
     }
+    look_at_named_form(warnings, alloc, machine, function, ending)
+}
+
+// Looks at the form that a call names which does nothing without it.
+#[inline(never)]
+#[tactic(auto, using(crate::proofs::Keeping::keeping))]
+fn look_at_named_form<A: Allocator + Copy>(
+    warnings: &mut Vec<Warning<A>, A>,
+    alloc: A,
+    machine: &Machine,
+    function: Function,
+    ending: &Ending,
+) -> Result<(), AllocError>
+    requires { (traits function).needs_form ≡ true }
+    ensures kept { Kept warnings.old.items warnings.new.items }
+    ensures said { OnOk result (Warns warnings.old.items warnings.new.items
+        (form_warnings function machine.now.memory.forms ending.now)) }
+{
     let name = argument(ending.arguments, 1);
     match find_form(machine, name) {
         None => look_at_missing(warnings, alloc, machine, function, name, ending),

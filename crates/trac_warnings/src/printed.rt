@@ -1,6 +1,6 @@
 //! What is suspicious in a call that prints or changes the meta character.
 ghost use Rattle.std.specs.List.{list_any};
-ghost use Rattle.std.specs.Prelude.{◌≡◌, ◌<◌, ◌≤◌, false, OnOk, length};
+ghost use Rattle.std.specs.Prelude.{◌≡◌, ◌<◌, ◌≤◌, false, true, OnOk, length};
 ghost use Rattle.trac_space.specs.Texts.{text_of_cells};
 ghost use Rattle.trac_warnings.specs.Performed.{Warns, changes_meta, meta_change_warnings, print_warnings, prints};
 ghost use Rattle.trac_warnings.specs.Printed.{begins_with_line_end, behind_call, behind_parenthesis};
@@ -17,7 +17,7 @@ use trac_language::Function;
 use trac_space::{Cell, character_of};
 
 /// Looks at what a call prints: whether its first call of a function ends it. An error means that memory ran out.
-#[inline(never)]
+#[inline(always)]
 #[tactic(auto, using(crate::proofs::Keeping::keeping))]
 pub(crate) fn look_at_print<A: Allocator + Copy>(
     warnings: &mut Vec<Warning<A>, A>,
@@ -32,6 +32,23 @@ pub(crate) fn look_at_print<A: Allocator + Copy>(
     if !prints(function) {
         return Ok(());
     }
+    look_at_printed(warnings, alloc, function, ending)
+}
+
+// Looks at the text that a call prints.
+#[inline(never)]
+#[tactic(auto, using(crate::proofs::Keeping::keeping))]
+fn look_at_printed<A: Allocator + Copy>(
+    warnings: &mut Vec<Warning<A>, A>,
+    alloc: A,
+    function: Function,
+    ending: &Ending,
+) -> Result<(), AllocError>
+    requires { prints function ≡ true }
+    ensures kept { Kept warnings.old.items warnings.new.items }
+    ensures said { OnOk result (Warns warnings.old.items warnings.new.items
+        (print_warnings function ending.now)) }
+{
     let printed = trimmed(argument(ending.arguments, 1));
     if !has_sign(printed) {
         return Ok(());
@@ -120,7 +137,7 @@ fn closes_at_end(text: &[u8]) -> bool
 }
 
 /// Looks at a call that makes a character of a line end the meta character. An error means that memory ran out.
-#[inline(never)]
+#[inline(always)]
 #[tactic(auto, using(crate::proofs::Keeping::keeping))]
 pub(crate) fn look_at_meta_change<A: Allocator + Copy>(
     warnings: &mut Vec<Warning<A>, A>,
@@ -135,6 +152,23 @@ pub(crate) fn look_at_meta_change<A: Allocator + Copy>(
     if !changes_meta(function) {
         return Ok(());
     }
+    look_at_new_meta(warnings, alloc, function, ending)
+}
+
+// Looks at the character that a call makes the meta character.
+#[inline(never)]
+#[tactic(auto, using(crate::proofs::Keeping::keeping))]
+fn look_at_new_meta<A: Allocator + Copy>(
+    warnings: &mut Vec<Warning<A>, A>,
+    alloc: A,
+    function: Function,
+    ending: &Ending,
+) -> Result<(), AllocError>
+    requires { changes_meta function ≡ true }
+    ensures kept { Kept warnings.old.items warnings.new.items }
+    ensures said { OnOk result (Warns warnings.old.items warnings.new.items
+        (meta_change_warnings function ending.now)) }
+{
     let new = argument(ending.arguments, 1);
     if begins_with_line_end(new) && has_two_at_end(ending.input) {
         return warn(warnings, alloc, Suspicion::LineEndAsMeta, ending.begin, new);

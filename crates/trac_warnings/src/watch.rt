@@ -75,6 +75,8 @@ pub struct Watch<A: Allocator> {
     // The arguments of the call that the step performs, and where its value was written, unless it is
     // one of them.
     arguments: Vec<Cell, A>,
+    // How many comma marks stand among these arguments.
+    given: usize,
     value: Origin,
     // How long the neutral string was before the step.
     neutral: usize,
@@ -97,6 +99,7 @@ impl<A: Allocator + Copy> Watch<A> {
             names: Vec::new(alloc),
             written: BTreeMap::new(alloc),
             arguments: Vec::new(alloc),
+            given: 0,
             value: Origin::in_input(0),
             neutral: 0,
         }

@@ -1,10 +1,10 @@
 //! The calls of a run that is watched: where they and their arguments were written, and what is suspicious at
 //! their ends.
-ghost use Rattle.std.specs.Prelude.{◌≡◌, ◌<◌, ◌&&◌, [], OnOk, true, drop, false, length, min, not};
+ghost use Rattle.std.specs.Prelude.{◌≡◌, ◌<◌, ◌-◌, ◌&&◌, [], OnOk, true, drop, false, length, min, not};
 ghost use Rattle.std.specs.Prelude.{reverse};
 ghost use Rattle.trac_warnings.specs.Counted.{counts_behind_call, counts_of};
 ghost use Rattle.trac_warnings.specs.Looked.{Looks, LooksAtEnd, LooksAtMark, around_of, begin_of};
-ghost use Rattle.trac_warnings.specs.Looked.{is_inside, is_stray, place_of, places_of};
+ghost use Rattle.trac_warnings.specs.Looked.{is_inside, is_stray, place_of};
 ghost use Rattle.trac_warnings.specs.Looked.{stray_warnings};
 ghost use Rattle.trac_warnings.specs.Performed.{Warns, function_of, has_odd_operand};
 ghost use Rattle.trac_warnings.specs.StepWarnings.{drop_warnings, is_arithmetic, is_null, lowered};
@@ -76,12 +76,13 @@ impl<A: Allocator + Copy> Watch<A> {
         let arguments = arguments_of(neutral, mark);
         let begin = self.begin();
         self.arguments.extend_from_slice(arguments)?;
+        self.given = commas_in(arguments) as usize;
         self.value = self.origin_of_form(machine, begin)?;
         let is_inside = self.is_inside(begin);
         let ending = Ending {
             arguments,
             begin,
-            places: places_of(&self.commas, arguments),
+            places: places_of(&self.commas, self.given),
             around: arguments_around(neutral, machine.call_mark(1), mark),
             is_inside,
             input,
@@ -167,26 +168,29 @@ impl<A: Allocator + Copy> Watch<A> {
         ensures runs { self.new.runs.items ≡ self.old.runs.items }
         ensures read { self.new.read ≡ self.old.read }
     {
-        self.warn_of_result(before, active, neutral)?;
-        self.keep_form()?;
+        let function = function_of(&self.arguments);
+        self.warn_of_result(function, before, active, neutral)?;
+        self.keep_form(function)?;
         self.close_call()
     }
 
-    // Warns of a call of arithmetic that has no result, unless something is suspicious in what it computes
-    // with.
-    #[inline(never)]
+    // Warns of a call of this function if it computes and has no result, unless something is suspicious in what it
+    // computes with.
+    #[inline(always)]
     fn warn_of_result(
         &mut self,
+        function: Option<Function>,
         before: &Before,
         active: usize,
         neutral: usize,
     ) -> Result<(), AllocError>
+        requires { function ≡ function_of self.old.arguments.items }
         ensures kept { Kept self.old.warnings.items self.new.warnings.items }
         ensures said { OnOk result (Warns self.old.warnings.items self.new.warnings.items
             (result_warnings self.old before.now active neutral)) }
         ensures stays { KeepsRun self.old self.new }
     {
-        if !self.has_no_result(before, active, neutral) {
+        if !self.has_no_result(function, before, active, neutral) {
             return Ok(());
         }
         let begin = self.calls.last().copied().unwrap_or(self.value);
@@ -200,14 +204,21 @@ impl<A: Allocator + Copy> Watch<A> {
         )
     }
 
-    // Whether a call of arithmetic with two numbers has no result: it gives no default value, and its value is
-    // null.
-    fn has_no_result(&self, before: &Before, active: usize, neutral: usize) -> bool
+    // Whether a call of this function computes with two numbers and has no result: it gives no default value, and its
+    // value is null.
+    fn has_no_result(
+        &self,
+        function: Option<Function>,
+        before: &Before,
+        active: usize,
+        neutral: usize,
+    ) -> bool
+        requires { function ≡ function_of self.now.arguments.items }
         ensures { result ≡ (is_arithmetic (function_of self.now.arguments.items)
             && (is_null self.now before.now active neutral
             && not (has_odd_operand self.now.arguments.items))) }
     {
-        is_arithmetic(function_of(&self.arguments))
+        is_arithmetic(function)
             && self.is_null(before, active, neutral)
             && !has_odd_operand(&self.arguments)
     }
@@ -223,11 +234,8 @@ impl<A: Allocator + Copy> Watch<A> {
         ensures runs { self.new.runs.items ≡ self.old.runs.items }
         ensures read { self.new.read ≡ self.old.read }
     {
-        let left = self
-            .commas
-            .len()
-            .saturating_sub(commas_in(&self.arguments) as usize);
-        self.commas.truncate(left);
+        self.commas
+            .truncate(self.commas.len().saturating_sub(self.given));
         self.calls.truncate(self.calls.len().saturating_sub(1));
         let depth = self.calls.len();
         if let Some(string) = self.strings.pop() {
@@ -302,13 +310,12 @@ fn arguments_around(neutral: &[Cell], outer: Option<CallMark>, mark: usize) -> &
     }
 }
 
-// Where each argument behind the name of the innermost call was written; `arguments` are the call's cells.
-// `commas` has the places of the arguments of all open calls.
-pub(super) fn places_of<'c>(commas: &'c [Origin], arguments: &[Cell]) -> &'c [Origin]
-    ensures { result.now ≡ places_of commas.now arguments.now }
+// Where each argument behind the name of the innermost call was written, which are `given`. `commas` has the places of
+// the arguments of all open calls.
+pub(super) fn places_of(commas: &[Origin], given: usize) -> &[Origin]
+    ensures { result.now ≡ drop (length commas.now - given) commas.now }
 {
-    let first = commas.len().saturating_sub(commas_in(arguments) as usize);
-    &commas[first..]
+    &commas[commas.len().saturating_sub(given)..]
 }
 
 // Where an argument was written, by the comma before it and what stands behind that: what is protected

@@ -3,8 +3,8 @@ ghost use Rattle.std.specs.Prelude.{◌≡◌, [], true, MatchOption, OnOk, fals
 ghost use Rattle.trac_events.specs.Calls.{reads};
 ghost use Rattle.trac_warnings.specs.Counted.{calls_of, counts_behind_call, counts_of, with_call};
 ghost use Rattle.trac_warnings.specs.Counted.{with_form};
-ghost use Rattle.trac_warnings.specs.Looked.{places_of};
 ghost use Rattle.trac_warnings.specs.Origins.{in_input};
+ghost use Rattle.trac_warnings.specs.Performed.{function_of};
 ghost use Rattle.trac_warnings.specs.Watched.{KeepsNames};
 
 use super::calls::places_of;
@@ -52,7 +52,7 @@ impl<A: Allocator + Copy> Watch<A> {
     }
 
     // Where what the step puts in front of the active string was written.
-    #[inline(never)]
+    #[inline(always)]
     pub(super) fn value_origin(&self, before: &Before, machine: &Machine) -> Origin
         ensures { reads before.now.awaits ≡ true → result ≡ in_input self.now.read }
     {
@@ -63,15 +63,15 @@ impl<A: Allocator + Copy> Watch<A> {
         }
         let active = machine.active();
         let added = active.len().saturating_add(1).saturating_sub(before.active);
-        if added == 0 {
-            return self.value;
+        match active.get(..added) {
+            Some(value) if added > 0 => self.origin_of_argument(value).unwrap_or(self.value),
+            _ => self.value,
         }
-        let value = active.get(..added).unwrap_or(&[]);
-        self.origin_of_argument(value).unwrap_or(self.value)
     }
 
     // Where the value of the call that the step performs was written, if it is an argument of the call. None
     // if it is none.
+    #[inline(never)]
     fn origin_of_argument(&self, value: &[Cell]) -> Option<Origin> {
         let arguments = self.arguments.as_slice();
         let function = function_of(arguments)?;
@@ -79,19 +79,34 @@ impl<A: Allocator + Copy> Watch<A> {
         let behind_name = if traits.chooses {
             place_of_chosen(value, argument(arguments, 3), argument(arguments, 4))
         } else {
-            place_of_default(value, arguments, traits.default?)?
+            self.place_of_default(value, traits.default?)?
         };
-        let places = places_of(&self.commas, arguments);
+        let places = places_of(&self.commas, self.given);
         places.get(behind_name).copied()
     }
 
-    // Keeps which form a call defined, if it defined one; and counts the call, if it is one of `cl`.
-    #[inline(never)]
-    pub(super) fn keep_form(&mut self) -> Result<(), AllocError>
+    // How many arguments stand between the name of the call and its default value, the argument `default`. None if
+    // that is not the value of the call.
+    fn place_of_default(&self, value: &[Cell], default: u32) -> Option<usize> {
+        if self.given < default as usize {
+            return None;
+        }
+        let text = argument(&self.arguments, default);
+        if value.len() == text.len() && is_same(value, text) {
+            Some((default as usize).saturating_sub(1))
+        } else {
+            None
+        }
+    }
+
+    // Keeps which form a call of this function defined, if it defined one; and counts the call, if it is one of `cl`.
+    #[inline(always)]
+    pub(super) fn keep_form(&mut self, function: Option<Function>) -> Result<(), AllocError>
+        requires { function ≡ function_of self.old.arguments.items }
         ensures stays { KeepsNames self.old self.new }
         ensures counts { OnOk result (counts_of self.new.written.entries ≡ counts_behind_call self.old) }
     {
-        match function_of(&self.arguments) {
+        match function {
             Some(Function::DefineString) => {
                 let name = characters_of(self.alloc, argument(&self.arguments, 1))?;
                 self.define(name)
@@ -105,12 +120,13 @@ impl<A: Allocator + Copy> Watch<A> {
     }
 
     // Keeps where the body of a form of this name was written that was defined.
+    #[inline(never)]
     fn define(&mut self, name: Vec<u8, A>) -> Result<(), AllocError>
         ensures stays { KeepsNames self.old self.new }
         ensures counts { OnOk result
             (counts_of self.new.written.entries ≡ with_form name.items (counts_of self.old.written.entries)) }
     {
-        let body = places_of(&self.commas, &self.arguments)
+        let body = places_of(&self.commas, self.given)
             .get(1)
             .copied()
             .unwrap_or(self.value);
@@ -147,6 +163,7 @@ impl<A: Allocator + Copy> Watch<A> {
     }
 
     // Counts a call of a form of this name, if one was defined.
+    #[inline(never)]
     fn count_call(&mut self, name: Vec<u8, A>) -> Result<(), AllocError>
         ensures stays { KeepsNames self.old self.new }
         ensures counts { OnOk result (counts_of self.new.written.entries ≡
@@ -171,17 +188,6 @@ fn place_of_chosen(value: &[Cell], third: &[Cell], fourth: &[Cell]) -> usize {
         2
     } else {
         3
-    }
-}
-
-// How many arguments stand between the name of a call and its default value, the argument `default`. None if that is
-// not the value of the call.
-fn place_of_default(value: &[Cell], arguments: &[Cell], default: u32) -> Option<usize> {
-    let text = argument(arguments, default);
-    if value.len() == text.len() && is_same(value, text) {
-        Some((default as usize).saturating_sub(1))
-    } else {
-        None
     }
 }
 

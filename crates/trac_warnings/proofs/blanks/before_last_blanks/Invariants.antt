@@ -1,6 +1,6 @@
 use Rattle.std.proofs.Common.{◌≡◌, ◌≤◌, drop}
 use Rattle.trac_warnings.specs.Blanks.{end_behind}
-use Rattle.trac_warnings.proofs.blanks.before_blanks.Given as goal
+use Rattle.trac_warnings.proofs.blanks.before_last_blanks.Given as goal
 
 -- the end so far, and the cells that are left, give the end of all; it isn't behind the cells so far
 abbrev pub invariant-loop-i : goal.invariant-loop-i

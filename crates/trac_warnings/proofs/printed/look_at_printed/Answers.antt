@@ -4,7 +4,7 @@ use Rattle.trac_warnings.specs.Blanks.{trimmed}
 use Rattle.trac_warnings.specs.Printed.{behind_call}
 use Rattle.trac_warnings.proofs.Keeping.{nothing_said}
 use Rattle.trac_warnings.proofs.Signs.{no_call, no_print}
-use Rattle.trac_warnings.proofs.printed.look_at_print.Goals as goal
+use Rattle.trac_warnings.proofs.printed.look_at_printed.Goals as goal
 
 pub returns-then-not-has_sign-clause-said : goal.returns-then-not-has_sign-clause-said
 returns-then-not-has_sign-clause-said g c =

@@ -1,4 +1,4 @@
-use Rattle.std.proofs.Common.{◌∙◌, ap, refl}
+use Rattle.std.proofs.Common.{◌∙◌, ◌-◌, ap, drop, length, refl}
 use Rattle.trac_warnings.proofs.Keeping.{on_ok}
 use Rattle.trac_warnings.specs.Looked.{around_of, is_inside, places_of}
 use Rattle.trac_warnings.proofs.watch.Watch.look_at_call.Goals as goal
@@ -8,6 +8,7 @@ returns-clause-looks g c =
     let neutral = c.neutral-neutral.result.now in
     let given = c.arguments_of-arguments.ensures in
     let begin = c.begin-begin.ensures in
+    let commas = c.args.self.now.commas.items in
     on_ok c.look_at_call.result _ _ (λ warns. (
       neutral,
       (
@@ -25,7 +26,7 @@ returns-clause-looks g c =
             record {
               arguments_are = given;
               begin_is = begin;
-              places_are = c.places_of.ensures ∙ ap (λ t. places_of t c.arguments_of-arguments.result.now) c.deref.ensures.value ∙ ap (places_of c.args.self.now.commas.items) given;
+              places_are = c.places_of.ensures ∙ ap (λ t. drop (length t - c.commas_in.result) t) c.deref.ensures.value ∙ ap (λ n. drop (length commas - n) commas) c.commas_in.ensures ∙ ap (places_of commas) given;
               around_is = c.arguments_around.ensures ∙ ap (λ o. around_of o neutral c.args.mark) c.call_mark.ensures;
               inside_is = c.is_inside-is_inside.ensures ∙ ap (is_inside c.args.self.now) begin;
               input_is = refl;
