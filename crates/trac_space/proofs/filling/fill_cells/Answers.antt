@@ -2,7 +2,7 @@ use Rattle.trac_space.proofs.Imports.{ℕ, ◌≡◌, ◌+◌, ◌-◌, ◌≤�
 use Rattle.trac_space.specs.Tags.{untagged}
 use Rattle.trac_space.proofs.Filled.{FilledFrom, task, along-start, along-behind, along-end, along-rest, commas-now, same-part, same-cell, block-run, cell-put, cell-full, filling-gap, last-bytes}
 use Rattle.trac_space.proofs.filling.fill_cells.Goals as goal
-use Rattle.trac_space.proofs.filling.fill_cells.Goals.{After-characters_before-run, After-part_numbered-start}
+use Rattle.trac_space.proofs.filling.fill_cells.Goals.{After-characters_before-run, After-part_numbered-part}
 
 -- a block is copied, whose last `r` cells are characters
 ran : (c : After-characters_before-run) → (r : ℕ) → r ≤ c.characters_before-run.result → c.args.from + r ≤ c.loop-at.at → FilledFrom (task c.args.cells.now c.args.from c.args.stop c.args.low c.args.to c.args.given.start c.args.given.len) c.copy_at_once.new.cells (c.loop-at.at - r) (c.loop-at.to - r)
@@ -39,9 +39,9 @@ some c less = ran c c.characters_before-run.result (omega arith) (omega (arith, 
 pub loop-at-preserved-then-run-eq-BLOCK : goal.loop-at-preserved-then-run-eq-BLOCK
 loop-at-preserved-then-run-eq-BLOCK c = some (goal.at.loop-at-preserved-then-run-eq-BLOCK c).After-characters_before-run (omega (arith, c.if-at-from.false))
 
-pub part_numbered-start-requires : goal.part_numbered-start-requires
-part_numbered-start-requires c =
-    let i = some (goal.at.part_numbered-start-requires c).After-characters_before-run (omega (arith, c.if-at-from.false)) in
+pub part_numbered-part-requires : goal.part_numbered-part-requires
+part_numbered-part-requires c =
+    let i = some (goal.at.part_numbered-part-requires c).After-characters_before-run (omega (arith, c.if-at-from.false)) in
     record {
       inside = omega (arith, i.size, c.requires.given.inside);
       bounded = omega (arith, i.size, c.requires.given.bounded);
@@ -49,7 +49,7 @@ part_numbered-start-requires c =
     }
 
 -- the cells that are to be put are those that fill the gap before the run
-are : (c : After-part_numbered-start) → (k : After-characters_before-run) → FilledFrom (task c.args.cells.now c.args.from c.args.stop c.args.low c.args.to c.args.given.start c.args.given.len) c.copy_at_once.new.cells (c.loop-at.at - c.characters_before-run.result) (c.loop-at.to - c.characters_before-run.result) → map untagged (slice_range c.copy_at_once.new.cells c.part_numbered-start.result.0 (c.part_numbered-start.result.0 + c.part_numbered-start.result.1)) ≡ filling (map untagged (slice_range c.args.cells.now c.args.given.start (c.args.given.start + c.args.given.len))) (slice_index_or c.args.cells.now (c.loop-at.at - c.characters_before-run.result - 1) Comma)
+are : (c : After-part_numbered-part) → (k : After-characters_before-run) → FilledFrom (task c.args.cells.now c.args.from c.args.stop c.args.low c.args.to c.args.given.start c.args.given.len) c.copy_at_once.new.cells (c.loop-at.at - c.characters_before-run.result) (c.loop-at.to - c.characters_before-run.result) → map untagged (slice_range c.copy_at_once.new.cells c.part_numbered-part.result.start (c.part_numbered-part.result.start + c.part_numbered-part.result.len)) ≡ filling (map untagged (slice_range c.args.cells.now c.args.given.start (c.args.given.start + c.args.given.len))) (slice_index_or c.args.cells.now (c.loop-at.at - c.characters_before-run.result - 1) Comma)
 are c k i =
     let old = c.args.cells.now in
     let now = c.copy_at_once.new.cells in
@@ -64,35 +64,35 @@ are c k i =
     let inside : at < length now = omega (arith, less, i.size, room, long, c.requires.inside) in
     let stop = sym (ap is_byte_cell cell) ∙ c.characters_before-run.ensures.stop (omega (arith, c.if-run-eq-BLOCK.false, c.characters_before-run.ensures.few)) in
     let number = c.ordinal_in.ensures ∙ ap ordinal_of (get_or_default now at (Byte 0) Comma inside ∙ cell) in
-    c.part_numbered-start.ensures.cells
+    c.part_numbered-part.ensures.cells
     ∙ ap (λ cells. part_between (map untagged cells) c.ordinal_in.result) part
     ∙ ap (part_between (map untagged (slice_range c.args.cells.now c.args.given.start (c.args.given.start + c.args.given.len)))) number
     ∙ sym (filling-gap (map untagged (slice_range c.args.cells.now c.args.given.start (c.args.given.start + c.args.given.len))) (slice_index_or old at Comma) stop)
 
-long : (c : After-part_numbered-start) → length c.copy_at_once.new.cells ≡ length c.args.cells.now → length (slice_range c.copy_at_once.new.cells c.part_numbered-start.result.0 (c.part_numbered-start.result.0 + c.part_numbered-start.result.1)) ≡ c.part_numbered-start.result.1
+long : (c : After-part_numbered-part) → length c.copy_at_once.new.cells ≡ length c.args.cells.now → length (slice_range c.copy_at_once.new.cells c.part_numbered-part.result.start (c.part_numbered-part.result.start + c.part_numbered-part.result.len)) ≡ c.part_numbered-part.result.len
 long c size =
-    omega (arith, length-between c.copy_at_once.new.cells c.part_numbered-start.result.0 (c.part_numbered-start.result.0 + c.part_numbered-start.result.1) (omega (arith, c.part_numbered-start.ensures.within, c.requires.behind, c.requires.room, c.requires.inside, size)))
+    omega (arith, length-between c.copy_at_once.new.cells c.part_numbered-part.result.start (c.part_numbered-part.result.start + c.part_numbered-part.result.len) (omega (arith, c.part_numbered-part.ensures.within, c.requires.behind, c.requires.room, c.requires.inside, size)))
 
-pub returns-then-n-to-clause-put : goal.returns-then-n-to-clause-put
-returns-then-n-to-clause-put c =
-    let at = goal.at.returns-then-n-to-clause-put c in
+pub returns-then-part-to-clause-put : goal.returns-then-part-to-clause-put
+returns-then-part-to-clause-put c =
+    let at = goal.at.returns-then-part-to-clause-put c in
     let k = at.After-characters_before-run in
     let i = some k (omega (arith, c.if-at-from.false)) in
-    cell-full i (c.loop-at.at - c.characters_before-run.result - 1) (omega (arith, c.if-at-from.false)) (omega (arith, c.if-at-from.false)) _ c.part_numbered-start.result.1 (long at.After-part_numbered-start i.size) (are at.After-part_numbered-start k i) (omega (arith, c.if-n-to.true))
+    cell-full i (c.loop-at.at - c.characters_before-run.result - 1) (omega (arith, c.if-at-from.false)) (omega (arith, c.if-at-from.false)) _ c.part_numbered-part.result.len (long at.After-part_numbered-part i.size) (are at.After-part_numbered-part k i) (omega (arith, c.if-part-to.true))
 
-pub returns-then-n-to-clause-front : goal.returns-then-n-to-clause-front
-returns-then-n-to-clause-front c = (some (goal.at.returns-then-n-to-clause-front c).After-characters_before-run (omega (arith, c.if-at-from.false))).front
+pub returns-then-part-to-clause-front : goal.returns-then-part-to-clause-front
+returns-then-part-to-clause-front c = (some (goal.at.returns-then-part-to-clause-front c).After-characters_before-run (omega (arith, c.if-at-from.false))).front
 
-pub returns-then-n-to-clause-behind : goal.returns-then-n-to-clause-behind
-returns-then-n-to-clause-behind c =
-    along-behind (some (goal.at.returns-then-n-to-clause-behind c).After-characters_before-run (omega (arith, c.if-at-from.false)))
+pub returns-then-part-to-clause-behind : goal.returns-then-part-to-clause-behind
+returns-then-part-to-clause-behind c =
+    along-behind (some (goal.at.returns-then-part-to-clause-behind c).After-characters_before-run (omega (arith, c.if-at-from.false)))
 
 pub loop-at-preserved : goal.loop-at-preserved
 loop-at-preserved c =
     let at = goal.at.loop-at-preserved c in
     let k = at.After-characters_before-run in
     let i = some k (omega (arith, c.if-at-from.false)) in
-    cell-put i (c.loop-at.at - c.characters_before-run.result - 1) (omega (arith, c.if-at-from.false)) (omega (arith, c.if-at-from.false)) c.put_untagged.new.cells _ _ c.part_numbered-start.result.1 (long at.After-part_numbered-start i.size) (are at.After-part_numbered-start k i) (omega (arith, c.if-n-to.false)) (omega (arith, c.if-n-to.false)) c.put_untagged.ensures.len c.put_untagged.ensures.front c.put_untagged.ensures.put
+    cell-put i (c.loop-at.at - c.characters_before-run.result - 1) (omega (arith, c.if-at-from.false)) (omega (arith, c.if-at-from.false)) c.put_untagged.new.cells _ _ c.part_numbered-part.result.len (long at.After-part_numbered-part i.size) (are at.After-part_numbered-part k i) (omega (arith, c.if-part-to.false)) (omega (arith, c.if-part-to.false)) c.put_untagged.ensures.len c.put_untagged.ensures.front c.put_untagged.ensures.put
 
 pub fill_each-requires-clause-given : goal.fill_each-requires-clause-given
 fill_each-requires-clause-given c =

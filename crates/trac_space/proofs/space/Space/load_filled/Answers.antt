@@ -75,7 +75,7 @@ returns-in-Some c =
     let n = s.end - s.active - c.in-Some.start in
     let is = is_seen k (given_seen at.After-self) in
     let n_is : length (more k) ≡ n = omega (arith, start) in
-    let moved = parts-more h (more k) c.fill_cells.new.cells n c.in-Some.start n_is (omega (arith, start, h.fits)) low put.len put.front put.put.2 in
+    let moved = parts-more h (more k) c.fill_cells.new.cells n c.in-Some.start n_is (omega (arith, start, h.fits)) low (record { len = put.len; front = put.front }) put.put.2 in
     let put_is = filled (map untagged (slice_range c.args.self.now.neutral c.args.first c.args.end)) (slice_range c.args.self.now.store c.args.a c.args.b) in (
       long k is ∙ n_is,
       omega (arith, low, n_is, start, size.store, size.neutral, size.active, size.index_area, size.room, h.fits, h.behind),
@@ -95,7 +95,7 @@ returns-in-None c =
     let put = c.in-None.ensures in
     let past = put.put in
     let all = long k (is_seen k (given_seen at.After-self)) in (
-      shown s.active (parts-kept h c.fill_cells.new.cells put.len put.front put.behind) ∙ c.self.view_is,
+      shown s.active (parts-kept h c.fill_cells.new.cells (record { len = put.len; front = put.front }) put.behind) ∙ c.self.view_is,
       omega (arith, past, all, size.store, size.neutral, size.active, size.index_area, size.room, h.fits, h.behind),
     )
 
@@ -111,7 +111,7 @@ invariant_of-self c =
     let low = put.put.1 in
     let n = s.end - s.active - c.in-Some.start in
     let n_is : length (more k) ≡ n = omega (arith, start) in
-    let moved = parts-more h (more k) c.fill_cells.new.cells n c.in-Some.start n_is (omega (arith, start, fits)) low put.len put.front put.put.2 in
+    let moved = parts-more h (more k) c.fill_cells.new.cells n c.in-Some.start n_is (omega (arith, start, fits)) low (record { len = put.len; front = put.front }) put.put.2 in
     tagged _ h moved refl (omega (arith, fits, low, start, n_is)) (omega (arith, behind)) h.calls h.linked
 
 pub invariant_of-self-in-None : goal.invariant_of-self-in-None
@@ -119,4 +119,4 @@ invariant_of-self-in-None c =
     let h = c.self.invariant in
     let fits = h.fits in
     let put = c.in-None.ensures in
-    tagged _ h (parts-kept h c.fill_cells.new.cells put.len put.front put.behind) refl (omega (arith, fits)) (omega (arith, h.behind)) h.calls h.linked
+    tagged _ h (parts-kept h c.fill_cells.new.cells (record { len = put.len; front = put.front }) put.behind) refl (omega (arith, fits)) (omega (arith, h.behind)) h.calls h.linked
