@@ -26,7 +26,7 @@ same c begin_is =
 fewer : (c : After-tag_commas-commas) → HaveTags c.args.space.now.neutral c.tag_commas-commas.new.self.neutral c.min-first.result (c.min-first.result + c.tag_commas-commas.result)
 fewer c =
     let tagged = c.tag_commas-commas.ensures in
-    numbers-fewer c.args.space.now.neutral c.tag_commas-commas.new.self.neutral c.min-first.result c.args.texts.to c.tag_commas-commas.result (omega (arith, c.min-first.ensures)) c.requires.arguments.within tagged.numbers tagged.commas.within tagged.commas.others
+    numbers-fewer c.args.space.now.neutral c.tag_commas-commas.new.self.neutral c.min-first.result c.args.texts.to (omega (arith, c.min-first.ensures)) c.requires.arguments.within tagged.numbers c.tag_commas-commas.result tagged.commas.within tagged.commas.others
 
 -- the lists once the numbers are taken off again
 module _ (old mid put last : Lists) (a b : ℕ) (numbers : HaveTags old.neutral mid.neutral a b) (long : length mid.neutral ≡ length old.neutral) (same : mid ≡ record old { neutral = mid.neutral }) (last_is : last ≡ record put { neutral = take a put.neutral ++ map untagged (slice_range put.neutral a b) ++ drop b put.neutral }) where
