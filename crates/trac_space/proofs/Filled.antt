@@ -7,6 +7,7 @@ use Rattle.std.proofs.Math.Seq.{drop-append_seam}
 use Rattle.std.proofs.lemmas.List.Elements.{All-drop}
 use Rattle.trac_space.proofs.Imports.{⊎_elim, ◌⊎◌, put_mid, drop_all, get_or_default, take-map, drop-map, drop-drop, map-append, take-take, append-nil, length-append, length-map, length-take-le, drop_more, get_or-take, All-head, All-tail, length-between, Cell, Byte, Comma, IsByte, is_byte_cell, is_comma}
 use Rattle.trac_space.proofs.Imports.{filling, filled, ordinal_of, IsPut, HaveCommas, parts_at, numbered_part, part_between}
+use Rattle.trac_space.specs.Filled.{PutsOnly}
 use Rattle.trac_space.specs.Tags.{has_tag, untagged, tag_of}
 
 -- what a copy to a place behind leaves
@@ -224,6 +225,10 @@ module _ {t : Task} where
         let d : t.last - to ≡ length h.done = omega (arith, long) in
         ap (λ i. drop i now) (sym e) ∙ sym (drop-drop (t.last - to) to now) ∙ ap (drop (t.last - to)) h.behind
         ∙ ap (λ k. drop k (h.done ++ drop t.last t.old)) d ∙ drop-append_seam h.done (drop t.last t.old)
+
+    -- what is put is known, and nothing else has changed
+    pub along-only : (result : Option ℕ) → IsPut t.old now t.low t.last (filled t.given (slice_range t.old t.from t.stop)) result → PutsOnly t.old now t.low t.last (filled t.given (slice_range t.old t.from t.stop)) result
+    along-only result put = record { put = put; len = h.size; front = h.front; behind = along-behind }
 
 -- what fills a cell that is no character
 pub filling-gap : (given : List Cell) (cell : Cell) → is_byte_cell cell ≡ false → filling given cell ≡ part_between given (ordinal_of cell)

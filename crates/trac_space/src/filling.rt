@@ -7,7 +7,7 @@ ghost use Rattle.trac_space.specs.declared.cell.Cell.TheVariants.{Comma};
 ghost use Rattle.trac_space.specs.Cells.{NoComma};
 ghost use Rattle.trac_space.specs.Filled.{IsArgumentTable, table_cells, ordinal_of, part_between};
 ghost use Rattle.trac_space.specs.Filled.{filling, filled, HaveCommas};
-ghost use Rattle.trac_space.specs.Filled.{IsPut, parts_at, numbered_part};
+ghost use Rattle.trac_space.specs.Filled.{CanFill, PutsOnly, parts_at, numbered_part};
 ghost use Rattle.trac_space.specs.Tags.{takes_tag, untagged};
 
 use crate::cell::{Cell, is_character, is_comma};
@@ -65,17 +65,9 @@ pub(crate) fn fill_cells(
     to: usize,
     given: ArgumentTable,
 ) -> Option<usize>
-    requires order { from ≤ stop }
-    requires before { stop ≤ given.start }
-    requires behind { given.start + given.len ≤ low }
-    requires room { low ≤ to }
-    requires inside { to ≤ length cells.old }
-    requires given { IsArgumentTable cells.old given }
-    ensures put { let more = filled (table_cells cells.old given) (slice_range cells.old from stop) in
-        IsPut cells.old cells.new low to more result }
-    ensures len { length cells.new ≡ length cells.old }
-    ensures front { take low cells.new ≡ take low cells.old }
-    ensures behind { drop to cells.new ≡ drop to cells.old }
+    requires { CanFill cells.old from stop low to given }
+    ensures { let more = filled (table_cells cells.old given) (slice_range cells.old from stop) in
+        PutsOnly cells.old cells.new low to more result }
 {
     let mut at = stop;
     let mut to = to;
@@ -111,17 +103,9 @@ fn fill_each(
     to: usize,
     given: ArgumentTable,
 ) -> Option<usize>
-    requires order { from ≤ stop }
-    requires before { stop ≤ given.start }
-    requires behind { given.start + given.len ≤ low }
-    requires room { low ≤ to }
-    requires inside { to ≤ length cells.old }
-    requires given { IsArgumentTable cells.old given }
-    ensures put { let more = filled (table_cells cells.old given) (slice_range cells.old from stop) in
-        IsPut cells.old cells.new low to more result }
-    ensures len { length cells.new ≡ length cells.old }
-    ensures front { take low cells.new ≡ take low cells.old }
-    ensures behind { drop to cells.new ≡ drop to cells.old }
+    requires { CanFill cells.old from stop low to given }
+    ensures { let more = filled (table_cells cells.old given) (slice_range cells.old from stop) in
+        PutsOnly cells.old cells.new low to more result }
 {
     let mut at = stop;
     let mut to = to;

@@ -1,6 +1,6 @@
-use Rattle.trac_space.proofs.Imports.{ℕ, ◌≡◌, ◌+◌, ◌-◌, ◌≤◌, ◌<◌, ◌∙◌, length, drop, map, slice_range, slice_index_or, sym, ap, arith, drop-drop, get_or_default, length-between, Byte, Comma, is_byte_cell, filling, part_between, ordinal_of}
+use Rattle.trac_space.proofs.Imports.{None, Some, ℕ, ◌≡◌, ◌+◌, ◌-◌, ◌≤◌, ◌<◌, ◌∙◌, length, drop, map, slice_range, slice_index_or, sym, ap, arith, drop-drop, get_or_default, length-between, Byte, Comma, is_byte_cell, filling, part_between, ordinal_of}
 use Rattle.trac_space.specs.Tags.{untagged}
-use Rattle.trac_space.proofs.Filled.{FilledFrom, task, along-start, along-behind, along-end, along-rest, commas-now, same-part, same-cell, block-run, cell-put, cell-full, filling-gap, last-bytes}
+use Rattle.trac_space.proofs.Filled.{FilledFrom, task, along-start, along-behind, along-only, along-end, along-rest, commas-now, same-part, same-cell, block-run, cell-put, cell-full, filling-gap, last-bytes}
 use Rattle.trac_space.proofs.filling.fill_cells.Goals as goal
 use Rattle.trac_space.proofs.filling.fill_cells.Goals.{After-characters_before-run, After-part_numbered-part}
 
@@ -20,17 +20,11 @@ loop-at-init c =
 ended : (c : After-characters_before-run) → c.loop-at.at - c.args.from ≤ c.characters_before-run.result → FilledFrom (task c.args.cells.now c.args.from c.args.stop c.args.low c.args.to c.args.given.start c.args.given.len) c.copy_at_once.new.cells (c.loop-at.at - (c.loop-at.at - c.args.from)) (c.loop-at.to - (c.loop-at.at - c.args.from))
 ended c all = let order = c.loop-at.invariant.order in ran c (c.loop-at.at - c.args.from) all (omega (arith, order))
 
-pub returns-then-at-from-clause-put : goal.returns-then-at-from-clause-put
-returns-then-at-from-clause-put c =
+pub returns-then-at-from : goal.returns-then-at-from
+returns-then-at-from c =
     let order = c.loop-at.invariant.order in
-    along-end (ended (goal.at.returns-then-at-from-clause-put c).After-characters_before-run c.if-at-from.true) (omega (arith, order))
-
-pub returns-then-at-from-clause-front : goal.returns-then-at-from-clause-front
-returns-then-at-from-clause-front c = (ended (goal.at.returns-then-at-from-clause-front c).After-characters_before-run c.if-at-from.true).front
-
-pub returns-then-at-from-clause-behind : goal.returns-then-at-from-clause-behind
-returns-then-at-from-clause-behind c =
-    along-behind (ended (goal.at.returns-then-at-from-clause-behind c).After-characters_before-run c.if-at-from.true)
+    let i = ended (goal.at.returns-then-at-from c).After-characters_before-run c.if-at-from.true in
+    along-only i (Some (c.loop-at.to - (c.loop-at.at - c.args.from))) (along-end i (omega (arith, order)))
 
 -- more cells are left
 some : (c : After-characters_before-run) → c.characters_before-run.result < c.loop-at.at - c.args.from → FilledFrom (task c.args.cells.now c.args.from c.args.stop c.args.low c.args.to c.args.given.start c.args.given.len) c.copy_at_once.new.cells (c.loop-at.at - c.characters_before-run.result) (c.loop-at.to - c.characters_before-run.result)
@@ -43,9 +37,9 @@ pub part_numbered-part-requires : goal.part_numbered-part-requires
 part_numbered-part-requires c =
     let i = some (goal.at.part_numbered-part-requires c).After-characters_before-run (omega (arith, c.if-at-from.false)) in
     record {
-      inside = omega (arith, i.size, c.requires.given.inside);
-      bounded = omega (arith, i.size, c.requires.given.bounded);
-      commas = commas-now i c.args.given.start (c.args.given.start + c.args.given.len) c.args.given.commas c.requires.behind c.requires.given.commas;
+      inside = omega (arith, i.size, c.requires.table.inside);
+      bounded = omega (arith, i.size, c.requires.table.bounded);
+      commas = commas-now i c.args.given.start (c.args.given.start + c.args.given.len) c.args.given.commas c.requires.behind c.requires.table.commas;
     }
 
 -- the cells that are to be put are those that fill the gap before the run
@@ -73,19 +67,12 @@ long : (c : After-part_numbered-part) → length c.copy_at_once.new.cells ≡ le
 long c size =
     omega (arith, length-between c.copy_at_once.new.cells c.part_numbered-part.result.start (c.part_numbered-part.result.start + c.part_numbered-part.result.len) (omega (arith, c.part_numbered-part.ensures.within, c.requires.behind, c.requires.room, c.requires.inside, size)))
 
-pub returns-then-part-to-clause-put : goal.returns-then-part-to-clause-put
-returns-then-part-to-clause-put c =
-    let at = goal.at.returns-then-part-to-clause-put c in
+pub returns-then-part-to : goal.returns-then-part-to
+returns-then-part-to c =
+    let at = goal.at.returns-then-part-to c in
     let k = at.After-characters_before-run in
     let i = some k (omega (arith, c.if-at-from.false)) in
-    cell-full i (c.loop-at.at - c.characters_before-run.result - 1) (omega (arith, c.if-at-from.false)) (omega (arith, c.if-at-from.false)) _ c.part_numbered-part.result.len (long at.After-part_numbered-part i.size) (are at.After-part_numbered-part k i) (omega (arith, c.if-part-to.true))
-
-pub returns-then-part-to-clause-front : goal.returns-then-part-to-clause-front
-returns-then-part-to-clause-front c = (some (goal.at.returns-then-part-to-clause-front c).After-characters_before-run (omega (arith, c.if-at-from.false))).front
-
-pub returns-then-part-to-clause-behind : goal.returns-then-part-to-clause-behind
-returns-then-part-to-clause-behind c =
-    along-behind (some (goal.at.returns-then-part-to-clause-behind c).After-characters_before-run (omega (arith, c.if-at-from.false)))
+    along-only i None (cell-full i (c.loop-at.at - c.characters_before-run.result - 1) (omega (arith, c.if-at-from.false)) (omega (arith, c.if-at-from.false)) _ c.part_numbered-part.result.len (long at.After-part_numbered-part i.size) (are at.After-part_numbered-part k i) (omega (arith, c.if-part-to.true)))
 
 pub loop-at-preserved : goal.loop-at-preserved
 loop-at-preserved c =
@@ -94,29 +81,41 @@ loop-at-preserved c =
     let i = some k (omega (arith, c.if-at-from.false)) in
     cell-put i (c.loop-at.at - c.characters_before-run.result - 1) (omega (arith, c.if-at-from.false)) (omega (arith, c.if-at-from.false)) c.put_untagged.new.cells _ _ c.part_numbered-part.result.len (long at.After-part_numbered-part i.size) (are at.After-part_numbered-part k i) (omega (arith, c.if-part-to.false)) (omega (arith, c.if-part-to.false)) c.put_untagged.ensures.len c.put_untagged.ensures.front c.put_untagged.ensures.put
 
-pub fill_each-requires-clause-given : goal.fill_each-requires-clause-given
-fill_each-requires-clause-given c =
+pub fill_each-requires : goal.fill_each-requires
+fill_each-requires c =
     let i = c.loop-at.invariant in
+    let order = i.order in
+    let within = i.within in
+    let room = i.room in
+    let long = i.long in
     record {
-      inside = omega (arith, i.size, c.requires.given.inside);
-      bounded = omega (arith, i.size, c.requires.given.bounded);
-      commas = commas-now i c.args.given.start (c.args.given.start + c.args.given.len) c.args.given.commas c.requires.behind c.requires.given.commas;
+      order = order;
+      before = omega (arith, within, c.requires.before);
+      behind = c.requires.behind;
+      room = room;
+      inside = omega (arith, long, i.size, c.requires.inside);
+      table = record {
+        inside = omega (arith, i.size, c.requires.table.inside);
+        bounded = omega (arith, i.size, c.requires.table.bounded);
+        commas = commas-now i c.args.given.start (c.args.given.start + c.args.given.len) c.args.given.commas c.requires.behind c.requires.table.commas;
+      };
     }
 
-pub returns-clause-put : goal.returns-clause-put
-returns-clause-put c =
-    let old = c.args.cells.now in
+pub returns : goal.returns
+returns c =
     let i = c.loop-at.invariant in
-    let now = c.loop-at.cells in
+    let new = c.fill_each.new.cells in
     let within = i.within in
+    let long = i.long in
     let before : c.args.stop ≤ c.args.low = omega (arith, c.requires.before, c.requires.behind) in
     let part = same-part i c.args.given.start (c.args.given.start + c.args.given.len) c.requires.behind in
     let items = same-part i c.args.from c.loop-at.at (omega (arith, within, before)) in
-    along-rest i c.fill_each.new.cells c.fill_each.result (rw (part, items) at c.fill_each.ensures.put)
-
-pub returns-clause-behind : goal.returns-clause-behind
-returns-clause-behind c =
-    let long = c.loop-at.invariant.long in
-    let e : c.loop-at.to + (c.args.to - c.loop-at.to) ≡ c.args.to = omega (arith, long) in
-    let last = along-behind c.loop-at.invariant in
-    ap (λ i. drop i c.fill_each.new.cells) (sym e) ∙ sym (drop-drop (c.args.to - c.loop-at.to) c.loop-at.to c.fill_each.new.cells) ∙ ap (drop (c.args.to - c.loop-at.to)) c.fill_each.ensures.behind ∙ drop-drop (c.args.to - c.loop-at.to) c.loop-at.to c.loop-at.cells ∙ ap (λ i. drop i c.loop-at.cells) e ∙ last
+    let further = c.args.to - c.loop-at.to in
+    let e : c.loop-at.to + further ≡ c.args.to = omega (arith, long) in
+    record {
+      put = along-rest i new c.fill_each.result (rw (part, items) at c.fill_each.ensures.put);
+      len = c.fill_each.ensures.len ∙ i.size;
+      front = c.fill_each.ensures.front ∙ i.front;
+      behind = ap (λ i. drop i new) (sym e) ∙ sym (drop-drop further c.loop-at.to new) ∙ ap (drop further) c.fill_each.ensures.behind
+          ∙ drop-drop further c.loop-at.to c.loop-at.cells ∙ ap (λ i. drop i c.loop-at.cells) e ∙ along-behind i;
+    }

@@ -1,6 +1,6 @@
-use Rattle.trac_space.proofs.Imports.{◌≡◌, ◌+◌, ◌-◌, ◌∙◌, ap, length, map, slice_range, slice_index_or, arith, Comma, length-between, filling}
+use Rattle.trac_space.proofs.Imports.{None, Some, ◌≡◌, ◌+◌, ◌-◌, ◌∙◌, ap, length, map, slice_range, slice_index_or, arith, Comma, length-between, filling}
 use Rattle.trac_space.specs.Tags.{untagged}
-use Rattle.trac_space.proofs.Filled.{along-start, along-behind, along-end, commas-now, same-part, same-cell, cell-put, cell-full}
+use Rattle.trac_space.proofs.Filled.{along-start, along-only, along-end, commas-now, same-part, same-cell, cell-put, cell-full}
 use Rattle.trac_space.proofs.filling.fill_each.Goals as goal
 use Rattle.trac_space.proofs.filling.fill_each.Goals.{After-filling_of-filling}
 
@@ -12,9 +12,9 @@ pub filling_of-filling-requires-clause-given : goal.filling_of-filling-requires-
 filling_of-filling-requires-clause-given c =
     let i = c.loop-at.invariant in
     record {
-      inside = omega (arith, i.size, c.requires.given.inside);
-      bounded = omega (arith, i.size, c.requires.given.bounded);
-      commas = commas-now i c.args.given.start (c.args.given.start + c.args.given.len) c.args.given.commas c.requires.behind c.requires.given.commas;
+      inside = omega (arith, i.size, c.requires.table.inside);
+      bounded = omega (arith, i.size, c.requires.table.bounded);
+      commas = commas-now i c.args.given.start (c.args.given.start + c.args.given.len) c.args.given.commas c.requires.behind c.requires.table.commas;
     }
 
 -- the cells that are to be put are those that fill the last one
@@ -40,19 +40,11 @@ loop-at-preserved c =
     let k = (goal.at.loop-at-preserved c).After-filling_of-filling in
     cell-put c.loop-at.invariant (c.loop-at.at - 1) (omega (arith, c.loop-at-test.true)) (omega (arith, c.loop-at-test.true)) c.put_untagged.new.cells _ _ c.filling_of-filling.result.len (long k) (are k) (omega (arith, c.if-filling-to.false)) (omega (arith, c.if-filling-to.false)) c.put_untagged.ensures.len c.put_untagged.ensures.front c.put_untagged.ensures.put
 
-pub returns-then-filling-to-clause-put : goal.returns-then-filling-to-clause-put
-returns-then-filling-to-clause-put c =
-    let k = (goal.at.returns-then-filling-to-clause-put c).After-filling_of-filling in
-    cell-full c.loop-at.invariant (c.loop-at.at - 1) (omega (arith, c.loop-at-test.true)) (omega (arith, c.loop-at-test.true)) _ c.filling_of-filling.result.len (long k) (are k) (omega (arith, c.if-filling-to.true))
+pub returns-then-filling-to : goal.returns-then-filling-to
+returns-then-filling-to c =
+    let k = (goal.at.returns-then-filling-to c).After-filling_of-filling in
+    along-only c.loop-at.invariant None (cell-full c.loop-at.invariant (c.loop-at.at - 1) (omega (arith, c.loop-at-test.true)) (omega (arith, c.loop-at-test.true)) _ c.filling_of-filling.result.len (long k) (are k) (omega (arith, c.if-filling-to.true)))
 
-pub returns-then-filling-to-clause-behind : goal.returns-then-filling-to-clause-behind
-returns-then-filling-to-clause-behind c =
-    along-behind c.loop-at.invariant
-
-pub returns-clause-put : goal.returns-clause-put
-returns-clause-put c =
-    along-end c.loop-at.invariant (omega (arith, c.loop-at.invariant.order, c.loop-at-test.false))
-
-pub returns-clause-behind : goal.returns-clause-behind
-returns-clause-behind c =
-    along-behind c.loop-at.invariant
+pub returns : goal.returns
+returns c =
+    along-only c.loop-at.invariant (Some c.loop-at.to) (along-end c.loop-at.invariant (omega (arith, c.loop-at.invariant.order, c.loop-at-test.false)))

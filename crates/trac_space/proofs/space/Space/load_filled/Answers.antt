@@ -24,16 +24,24 @@ given_seen c =
 end_is : (c : After-self) → c.self.inside.store + c.args.first + (c.args.end - c.args.first) ≡ c.self.inside.store + c.args.end
 end_is c = omega (arith, c.requires.given_order)
 
-pub fill_cells-requires-clause-given : goal.fill_cells-requires-clause-given
-fill_cells-requires-clause-given c =
-    let k = (goal.at.fill_cells-requires-clause-given c).After-self in
+pub fill_cells-requires : goal.fill_cells-requires
+fill_cells-requires c =
+    let k = (goal.at.fill_cells-requires c).After-self in
+    let s = c.self.inside in
     let h = c.self.invariant in
     let size = sizes h c.self.view_is in
     let end = end_is k in
     record {
-      inside = omega (arith, end, c.requires.given_within, size.neutral, h.fits, h.behind);
-      bounded = omega (arith, h.bounded);
-      commas = rw end (commas-from-seen (given k) _ c.args.commas (given_seen k) c.requires.commas);
+      order = c.requires.order;
+      before = omega (arith, c.requires.within, size.store);
+      behind = omega (arith, end, c.requires.given_within, size.neutral);
+      room = omega (arith, h.fits);
+      inside = omega (arith, h.behind);
+      table = record {
+        inside = omega (arith, end, c.requires.given_within, size.neutral, h.fits, h.behind);
+        bounded = omega (arith, h.bounded);
+        commas = rw end (commas-from-seen (given k) _ c.args.commas (given_seen k) c.requires.commas);
+      };
     }
 
 -- what is put, as it stands in the block
