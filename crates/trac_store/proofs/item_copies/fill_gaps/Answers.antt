@@ -1,5 +1,6 @@
 use Rattle.trac_store.proofs.Imports.{◌≡◌, ℕ, ◌+◌, ◌≤◌, ◌<◌, ◌++◌, List, length, map, take, drop, slice_range, Option, Some, None, MatchOption, sym, ap, ◌∙◌, arith, length-map, Cell, Byte, Text, Lists, used, HaveTags, filled, flat_text, filled_cells, untagged}
 use Rattle.trac_store.proofs.FilledParts.{IsBegin, given-takes, filled-flat, numbers-long, numbers-fewer, untagged-numbers}
+use Rattle.trac_store.specs.Arguments.{LoadsText}
 use Rattle.trac_store.proofs.item_copies.fill_gaps.Goals as goal
 use Rattle.trac_store.proofs.item_copies.fill_gaps.Goals.{After-min-first, After-tag_commas-commas}
 
@@ -43,9 +44,7 @@ module _ (old mid put last : Lists) (a b : ℕ) (numbers : HaveTags old.neutral 
       → MatchOption result
       ((put ≡ record mid { index_area = put.index_area }) × (mid.room < used mid + length more))
       (λ n. (length more ≡ n) × (used mid + n ≤ mid.room) × (put ≡ record mid { active = more ++ mid.active; index_area = put.index_area }))
-      → MatchOption result
-      ((last ≡ record old { index_area = last.index_area }) × (old.room < used old + length text))
-      (λ n. (length text ≡ n) × (used old + n ≤ old.room) × (last ≡ record old { active = flat_text text ++ old.active; index_area = last.index_area }))
+      → LoadsText old last text result
   cleared None more text is h = (
     last_is
         ∙ ap (λ (l : Lists). record l { neutral = take a l.neutral ++ map untagged (slice_range l.neutral a b) ++ drop b l.neutral }) h.0

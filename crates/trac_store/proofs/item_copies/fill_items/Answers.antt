@@ -1,16 +1,14 @@
-use Rattle.trac_store.proofs.Imports.{◌≡◌, ℕ, ◌+◌, ◌≤◌, ◌<◌, ◌++◌, true, false≢true, length, slice_range, Option, Some, None, MatchOption, All, sym, ap, ◌∙◌, arith, IsByte, Lists, used, reserved, flat_text, texts_between, filled_cells}
+use Rattle.trac_store.proofs.Imports.{◌≡◌, ℕ, ◌≤◌, ◌++◌, true, false≢true, length, slice_range, Option, Some, None, sym, ap, ◌∙◌, arith, Lists, reserved, flat_text, texts_between, filled_cells}
 use Rattle.std.specs.Option.{is_some}
 use Rattle.trac_space.specs.declared.part.Part.{Part}
+use Rattle.trac_store.specs.Arguments.{LoadsText, LoadsCharacters}
 use Rattle.trac_store.proofs.Filling.{no_comma_from-flat, no_comma_from-length}
 use Rattle.trac_store.proofs.item_copies.fill_items.Goals as goal
 
 -- characters are filled by no text
 no_comma_from : (result : Option ℕ) (old new : Lists) (items texts : Part) → items.to ≤ length old.store → is_some result ≡ true
-    → MatchOption result (new ≡ old)
-    (λ n. All IsByte (slice_range old.store items.from items.to) × (items.from + n ≡ items.to) × (used old + n ≤ old.room) × (new ≡ record (reserved n old) { active = slice_range old.store items.from items.to ++ old.active }))
-    → MatchOption result
-    ((new ≡ record old { index_area = new.index_area }) × (old.room < used old + length (filled_cells old items.from items.to texts.from texts.to)))
-    (λ n. (length (filled_cells old items.from items.to texts.from texts.to) ≡ n) × (used old + n ≤ old.room) × (new ≡ record old { active = flat_text (filled_cells old items.from items.to texts.from texts.to) ++ old.active; index_area = new.index_area }))
+    → LoadsCharacters old new items.from items.to result
+    → LoadsText old new (filled_cells old items.from items.to texts.from texts.to) result
 no_comma_from None old new items texts within some h = absurd (false≢true some)
 no_comma_from (Some n) old new items texts within some h =
     let given = texts_between old.neutral texts.from texts.to in
