@@ -18,14 +18,15 @@ part_dropped xs a n b low =
     let size : b - a ≡ n + m = omega arith in
     sym (ap (λ k. drop n (take k (drop a xs))) size ∙ drop-take n m (drop a xs) ∙ ap (take m) (drop-drop n a xs))
 
--- a part that ends where more was written
-pub part_appended : (xs ys more : List ℕ) (a b n k : ℕ) → ys ≡ more → length more ≡ n → k ≡ n → a ≤ b → b ≤ length xs
-    → slice_range (put_mid b k xs ys) a (b + n) ≡ slice_range xs a b ++ more
-part_appended xs ys more a b n k same size exact low high =
-    let long : b + n ≡ b + length ys = omega (arith, ap length same) in
-    let inside : a ≤ length (take b xs) = omega (arith, length-take b xs) in
-    between_is (put_mid b k xs ys) a (b + n) ∙ ap (drop a) (take-put_mid b k xs ys (b + n) long high)
-    ∙ drop-append-le a (take b xs) ys inside ∙ ap₂ (λ (us vs : List ℕ). us ++ vs) (sym (between_is xs a b)) same
+-- the part from a up to b grows by the n bytes that are written behind it
+module _ (xs : List ℕ) (a b n : ℕ) (low : a ≤ b) (high : b ≤ length xs) where
+  pub part_appended : (ys more : List ℕ) (k : ℕ) → ys ≡ more → length more ≡ n → k ≡ n
+      → slice_range (put_mid b k xs ys) a (b + n) ≡ slice_range xs a b ++ more
+  part_appended ys more k same size exact =
+      let long : b + n ≡ b + length ys = omega (arith, ap length same) in
+      let inside : a ≤ length (take b xs) = omega (arith, length-take b xs) in
+      between_is (put_mid b k xs ys) a (b + n) ∙ ap (drop a) (take-put_mid b k xs ys (b + n) long high)
+      ∙ drop-append-le a (take b xs) ys inside ∙ ap₂ (λ (us vs : List ℕ). us ++ vs) (sym (between_is xs a b)) same
 
 pub consumes_kept : (a b d : Option (List ℕ)) (xs : List ℕ) → Keeps a b → Consumes b d xs → Consumes a d xs
 consumes_kept None b d xs kept took = tt

@@ -2,7 +2,8 @@
 use Rattle.trac_forms.proofs.Imports.{◌≡◌, ◌≢◌, ℕ, zero, suc, ◌+◌, ◌-◌, ◌<◌, ◌≤◌, true, false, List, [], ◌∷◌, length, set, take, if◌then◌else◌, refl, sym, ap, ◌∙◌, arith, subst, nat_lt, nat_le, remove, lt-ltb, le-ltb, ltb-true, ltb-false, lt-leb, leb-true, leb-false, false≢true, get_or-take}
 use Rattle.trac_forms.proofs.Imports.{take-take, length-take-le, length-set, length-remove, get_or-remove_below, get_or-remove_above, sum_by-cons, Text, Form, form_cells, cells, Cell, Comma, Head, flat_forms, name_at, form_at, start_of, hash, quarter, slots, cell_at, home_place, is_open, number_of}
 use Rattle.trac_forms.proofs.Imports.{home_in, start_in, buried, forward, earlier, started, IsReached, IsIndexBut, IsIndex, IsOpenFor, with_entry, Bool, take-set-le}
-use Rattle.trac_store.proofs.TableChanges.{index-put, index-bury, index-begin, index-as, index-renamed, reached-within, head-same}
+use Rattle.trac_store.specs.Stored.{IsLocated}
+use Rattle.trac_store.proofs.TableChanges.{numbered, index-put, index-bury, index-begin, index-as, index-renamed, reached-within, head-same}
 use Rattle.trac_store.proofs.FlatLemmas.{length-flat}
 use Rattle.trac_store.proofs.IndexSearch.{name-set}
 
@@ -33,20 +34,22 @@ front-same forms k j less = (
 pub index-front : (table : List Cell) (forms : List Form) (k : ℕ) → k ≤ length forms → IsIndex table (take k forms) → IsIndexBut table k k (name_at forms) (start_of forms)
 index-front table forms k within index =
     let front = take k forms in
-    index-renamed table (length front) k (name_at front) (name_at forms) (start_of front) (start_of forms) (sym (length-take-le k forms within)) (λ j less. (let same = front-same forms k j less in (sym same.0, sym same.1))) index
+    index-renamed table (numbered front) (record (numbered forms) { count = k }) (sym (length-take-le k forms within)) (λ j less. (let same = front-same forms k j less in (sym same.0, sym same.1))) index
 
 pub front-index : (table : List Cell) (forms : List Form) (k : ℕ) → k ≤ length forms → IsIndexBut table k k (name_at forms) (start_of forms) → IsIndex table (take k forms)
 front-index table forms k within index =
     let front = take k forms in
     let size = length-take-le k forms within in
-    index-renamed table k (length front) (name_at forms) (name_at front) (start_of forms) (start_of front) size (λ j less. front-same forms k j (omega (arith, size, less))) index
+    index-renamed table (record (numbered forms) { count = k }) (numbered front) size (λ j less. front-same forms k j (omega (arith, size, less))) index
 
 open-head : (cell : Cell) (k : ℕ) → is_open cell ≡ true → cell ≡ Head k → ⊥
 open-head cell k free is = false≢true (sym (ap is_open is) ∙ free)
 
 -- one form more
-pub index-next : (table : List Cell) (forms : List Form) (k s start : ℕ) → k < length forms → start ≡ start_of forms k → IsIndex table (take k forms) → k < quarter table → IsOpenFor table (hash (name_at forms k)) s → IsIndex (with_entry table s k start) (take (k + 1) forms)
-index-next table forms k s start within begins index overflow place =
+pub index-next : (table : List Cell) (forms : List Form) (k s start : ℕ) → IsLocated forms k start → IsIndex table (take k forms) → k < quarter table → IsOpenFor table (hash (name_at forms k)) s → IsIndex (with_entry table s k start) (take (k + 1) forms)
+index-next table forms k s start located index overflow place =
+    let within = located.within in
+    let begins = located.start_is in
     let front = index-front table forms k (omega (arith, within)) index in
     let put = index-put table k k s (k + 1) (k + 1) (name_at forms) (name_at forms) (start_of forms) (start_of forms) front (omega arith) (λ e. absurd (omega (arith, e))) (omega (arith, overflow))
     (λ j less there differs. (omega (arith, less, differs), refl, refl))
@@ -75,7 +78,7 @@ index-cut table forms k within index =
     let front = index-front table forms (k + 1) (omega (arith, within)) index in
     let cut = index-buried table (k + 1) k (name_at forms) (start_of forms) front (omega arith) in
     front-index (buried table k) forms k (omega (arith, within))
-    (index-as (buried table k) (k + 1) k k k (name_at forms) (name_at forms) (start_of forms) (start_of forms) (omega (arith, cut.overflow)) (λ j less there. (omega (arith, less), there, refl, refl)) (λ j less there. (omega (arith, less, there), there)) cut)
+    (index-as (buried table k) (record (numbered forms) { count = k + 1 }) (record (numbered forms) { count = k }) k k (omega (arith, cut.overflow)) (λ j less there. (omega (arith, less), there, refl, refl)) (λ j less there. (omega (arith, less, there), there)) cut)
 
 -- where forms begin once one is removed
 start-cells : (forms : List Form) (j : ℕ) → start_of forms j ≡ cells (take j forms)
@@ -110,7 +113,7 @@ module _ (forms : List Form) (k : ℕ) (within : k < length forms) where
   -- nothing has come forward yet
   pub index-gap : (table : List Cell) → IsIndexBut table (length forms) k (name_at forms) (start_of forms) → IsIndexBut table (length forms) k (names_now forms k k) (starts_now forms k k)
   index-gap table index =
-      index-as table (length forms) k (length forms) k (name_at forms) (names_now forms k k) (start_of forms) (starts_now forms k k) index.overflow
+      index-as table (numbered forms) (record { count = length forms; name = names_now forms k k; start = starts_now forms k k }) k k index.overflow
       (λ j less there. (less, there, names j, starts j)) (λ j less there. (less, there)) index
     where
       names : (j : ℕ) → names_now forms k k j ≡ name_at forms j
@@ -170,7 +173,7 @@ module _ (forms : List Form) (k : ℕ) (within : k < length forms) where
   pub index-removed : (table : List Cell) (gap : ℕ) → gap + 1 ≡ length forms → IsIndexBut table (length forms) gap (names_now forms k gap) (starts_now forms k gap) → IsIndex table (remove forms k)
   index-removed table gap all index =
       let size = length-remove forms k within in
-      index-as table (length forms) gap (length (remove forms k)) (length (remove forms k)) (names_now forms k gap) (name_at (remove forms k)) (starts_now forms k gap) (start_of (remove forms k)) (omega (arith, size, index.overflow))
+      index-as table (record { count = length forms; name = names_now forms k gap; start = starts_now forms k gap }) (numbered (remove forms k)) gap (length (remove forms k)) (omega (arith, size, index.overflow))
       (λ j less there. (
         omega (arith, size, less),
         λ e. absurd (omega (arith, e, all, size, less)),
@@ -187,7 +190,7 @@ module _ (k n less : ℕ) (name : ℕ → Text) (start : ℕ → ℕ) where
 
   pub index-started : (table : List Cell) → IsIndexBut table n n name start → IsIndexBut table n n name (started k (k + 1) less start)
   index-started table index =
-      index-renamed table n n name name start (started k (k + 1) less start) refl (λ j _. (refl, started-none j)) index
+      index-renamed table (record { count = n; name = name; start = start }) (record { count = n; name = name; start = started k (k + 1) less start }) refl (λ j _. (refl, started-none j)) index
 
   -- form `next` begins earlier too
   started-here : (next : ℕ) → k < next → started k (next + 1) less start next ≡ start next - less
@@ -237,7 +240,7 @@ module _ (forms : List Form) (k : ℕ) (new : Form) (within : k < length forms) 
   index-set table count all index =
       let now = set forms k new in
       let size : length now ≡ count = omega (arith, length-set forms k new, all) in
-      index-renamed table count (length now) (name_at forms) (name_at now) (started k count less (start_of forms)) (start_of now) size (λ j inside. (name-set new forms k j named, start-set count j (omega (arith, size, inside)))) index
+      index-renamed table (record { count = count; name = name_at forms; start = started k count less (start_of forms) }) (numbered now) size (λ j inside. (name-set new forms k j named, start-set count j (omega (arith, size, inside)))) index
 
 -- the forms behind form k begin behind its cells
 pub front-cells : (forms : List Form) (k j : ℕ) → k < length forms → k < j → form_cells (form_at forms k) ≤ start_of forms j
@@ -248,7 +251,7 @@ front-cells forms k j within behind =
 -- forms that begin no earlier
 pub index-unmoved : (k count cells : ℕ) (name : ℕ → Text) (start : ℕ → ℕ) (table : List Cell) → cells ≡ 0 → IsIndexBut table count count name start → IsIndexBut table count count name (started k count cells start)
 index-unmoved k count cells name start table none index =
-    index-renamed table count count name name start (started k count cells start) refl (λ j _. (refl, same j)) index
+    index-renamed table (record { count = count; name = name; start = start }) (record { count = count; name = name; start = started k count cells start }) refl (λ j _. (refl, same j)) index
   where
     same : (j : ℕ) → started k count cells start j ≡ start j
     same j =

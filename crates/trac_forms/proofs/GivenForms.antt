@@ -1,11 +1,18 @@
 -- Forms that are given from outside: their cells, and whether one has a name.
-use Rattle.trac_forms.proofs.Imports.{◌≡◌, ◌≢◌, ℕ, ◌+◌, ◌<◌, ◌≤◌, Bool, true, false, List, ◌∷◌, ◌++◌, length, take, drop, set, map, get_or, sym, ap, ◌∙◌, arith, rules, places, same_lists, length-map, drop_more, get_or-map, Cell, Comma, flat_item, Item, text_of_cells, character_of, reads, paste, paste_more, Text, take_all, Decides, both_ways, false≢true}
+use Rattle.trac_forms.proofs.Imports.{◌≡◌, ◌≢◌, ℕ, ◌+◌, ◌<◌, ◌≤◌, false, List, ◌∷◌, ◌++◌, length, take, drop, set, map, get_or, sym, ap, ◌∙◌, arith, rules, places, same_lists, length-map, drop_more, get_or-map, Cell, Comma, Head, flat_item, Item, text_of_cells, character_of, reads, paste, paste_more, Text, Decides, false≢true}
 use Rattle.trac_language.specs.declared.item.Item.TheVariants.{Gap}
+use Rattle.trac_store.specs.declared.form_heads.Heads.{Heads}
 
--- three cells and two parts stand where they were written
-pub form-written : (was : List Cell) (start n m : ℕ) (x y z : Cell) (name text : List Cell) → length name ≡ n → length text ≡ m → length was ≡ start + (3 + n + m) → let heads = set (set (set was start x) (start + 1) y) (start + 2) z in let named = take (start + 3) heads ++ name ++ drop (start + 3 + n) heads in take (start + 3 + n) named ++ text ++ drop (start + 3 + n + m) named ≡ take start was ++ x ∷ y ∷ z ∷ (name ++ text)
-form-written was start n m x y z name text named texted last =
-    same_lists _ _ (search (rules, places)) (λ k d less. grind (arith, reads))
+module _ (was : List Cell) (start : ℕ) (name text : List Cell) where
+  -- three cells and two parts stand where they were written
+  cells-written : (n m : ℕ) (x y z : Cell) → length name ≡ n → length text ≡ m → length was ≡ start + (3 + n + m) → let headed = set (set (set was start x) (start + 1) y) (start + 2) z in let named = take (start + 3) headed ++ name ++ drop (start + 3 + n) headed in take (start + 3 + n) named ++ text ++ drop (start + 3 + n + m) named ≡ take start was ++ x ∷ y ∷ z ∷ (name ++ text)
+  cells-written n m x y z named texted last =
+      same_lists _ _ (search (rules, places)) (λ k d less. grind (arith, reads))
+
+  -- so do the heads, the name and the text of a form
+  pub form-written : (heads : Heads) → length name ≡ heads.name → length text ≡ heads.body → length was ≡ start + (3 + heads.name + heads.body) → let headed = set (set (set was start (Head heads.name)) (start + 1) (Head heads.body)) (start + 2) (Head heads.pointer) in let named = take (start + 3) headed ++ name ++ drop (start + 3 + heads.name) headed in take (start + 3 + heads.name) named ++ text ++ drop (start + 3 + heads.name + heads.body) named ≡ take start was ++ Head heads.name ∷ Head heads.body ∷ Head heads.pointer ∷ (name ++ text)
+  form-written heads =
+      cells-written heads.name heads.body (Head heads.name) (Head heads.body) (Head heads.pointer)
 
 -- the next item, and those behind it
 pub item-next : (items rest : List Item) (i : ℕ) (item : Item) → i < length items → drop i items ≡ item ∷ rest → (get_or items i (Gap 0) ≡ item) × (drop (i + 1) items ≡ rest)

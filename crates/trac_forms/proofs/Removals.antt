@@ -1,11 +1,12 @@
 -- Forms that are marked, and then removed.
-use Rattle.trac_forms.proofs.Imports.{AreForms, Located, ◌≡◌, ◌<◌, ℕ, zero, suc, ◌+◌, ◌≤◌, Bool, true, false, List, [], ◌∷◌, length, set, slice_range, sym, ap, refl, ◌∙◌, subst, arith, ◌⊎◌, ⊎_elim, if◌then◌else◌, filter, not, ◌||◌, ◌==◌, length-append, length-set, get_or-set_other, All-head}
-use Rattle.trac_forms.proofs.Imports.{All-tail, Text, Form, is_named, NoneNamed, IsStore, Cell, Head, Lists, flat_form, flat_forms, form_at, IsNamedAt, IsTextPart, part_text, part_texts, before_comma, parts_between, texts_between, AreParted, IsPlace, forms_in, start_of}
-use Rattle.trac_forms.proofs.Imports.{is_among, without_all, mark, is_marked, marked, marked_if, with_marks, unmarked, HaveOwnNames, IsFormed, IsMarkedFrom, begins}
+use Rattle.trac_forms.proofs.Imports.{AreForms, Located, ◌≡◌, ℕ, zero, suc, ◌+◌, ◌≤◌, Bool, true, false, List, [], ◌∷◌, length, set, slice_range, sym, ap, refl, ◌∙◌, subst, arith, ◌⊎◌, ⊎_elim, if◌then◌else◌, filter, not, ◌||◌, ◌==◌, length-append, length-set, get_or-set_other, All-head}
+use Rattle.trac_forms.proofs.Imports.{All-tail, Text, Form, is_named, NoneNamed, IsStore, Cell, Head, Lists, flat_form, flat_forms, form_at, IsNamedAt, IsTextPart, part_text, part_texts, before_comma, parts_between, texts_between, AreParted, IsPlace, forms_in}
+use Rattle.trac_forms.proofs.Imports.{is_among, without_all, mark, is_marked, marked, marked_if, with_marks, unmarked, HaveOwnNames, IsFormed, IsMarkedFrom}
 use Rattle.trac_store.proofs.FlatLemmas.{forms_in-flat, length-flat_form}
 use Rattle.trac_store.proofs.Places.{stands, repointed, start_of-set}
 use Rattle.trac_store.proofs.ArgumentParts.{parts-first, part-fits}
 use Rattle.trac_store.proofs.IndexSearch.{index-pointer, same_start}
+use Rattle.trac_store.specs.Stored.{IsFoundAt, IsLocated}
 use Rattle.trac_store.proofs.DistinctForms.{cells-set, same_name, other_name, earlier_differs, NoneNamed-set}
 
 -- ---- distinct names
@@ -60,44 +61,57 @@ mark-at name (form ∷ forms) (suc k) h at =
     let more = mark-at name forms k h.1 (record { within = omega (arith, at.within); named = at.named }) in
     rw e (ap (λ fs. form ∷ fs) more)
 
--- the cells once a form is marked that is found
-pub marked-lists : {s t : Lists} {count last start k at : ℕ} {name : Text} → IsFormed s count last start → IsNamedAt (forms_in s.store) name k → at ≡ start_of (forms_in s.store) k → t ≡ record s { store = set s.store (at + 2) (Head mark) } → (t ≡ record s { store = flat_forms (with_marks (name ∷ []) (forms_in s.store)) }) × IsFormed t count k at
-marked-lists {s = s} {t = t} {count = count} {k = k} {at = at} {name = name} h named begins written =
-    let forms = forms_in s.store in
-    let form = marked (form_at forms k) in
-    let new = set forms k form in
-    let f = stands forms s.store k at h.kept.has.forms.whole named.within begins in
-    let cells = repointed forms s.store k at mark named.within begins f in
-    let is : t ≡ record s { store = flat_forms new } = written ∙ ap (λ cells. record s { store = cells }) cells in
-    let read = forms_in-flat new in
-    let size = length-set forms k form in
-    let fewer = cells-set forms k form named.within (omega arith) in (
-      is ∙ ap (λ fs. record s { store = flat_forms fs }) (sym (mark-at name forms k h.distinct named)),
-      subst (λ (l : Lists). IsFormed l count k at) (sym is) (record {
-        kept = record {
-          has = record {
-            forms = record { whole = rw read refl; bounded = omega (arith, h.kept.has.forms.bounded, fewer, ap length h.kept.has.forms.whole) };
-            count_is = rw read (omega (arith, h.kept.has.count_is, size));
-            index = rw read (index-pointer forms k mark s.index_area h.kept.has.index);
+-- a form is marked that was found for a name
+module _ {s : Lists} {count last start k at : ℕ} {name : Text} (h : IsFormed s count last start) (found : IsFoundAt (forms_in s.store) name k at) where
+  pub marked-lists : (t : Lists) → t ≡ record s { store = set s.store (at + 2) (Head mark) } → (t ≡ record s { store = flat_forms (with_marks (name ∷ []) (forms_in s.store)) }) × IsFormed t count k at
+  marked-lists t written =
+      let named = found.named in
+      let begins = found.start_is in
+      let forms = forms_in s.store in
+      let form = marked (form_at forms k) in
+      let new = set forms k form in
+      let f = stands forms s.store k at h.kept.has.forms.whole named.within begins in
+      let cells = repointed forms s.store k at mark named.within begins f in
+      let is : t ≡ record s { store = flat_forms new } = written ∙ ap (λ cells. record s { store = cells }) cells in
+      let read = forms_in-flat new in
+      let size = length-set forms k form in
+      let fewer = cells-set forms k form named.within (omega arith) in (
+        is ∙ ap (λ fs. record s { store = flat_forms fs }) (sym (mark-at name forms k h.distinct named)),
+        subst (λ (l : Lists). IsFormed l count k at) (sym is) (record {
+          kept = record {
+            has = record {
+              forms = record { whole = rw read refl; bounded = omega (arith, h.kept.has.forms.bounded, fewer, ap length h.kept.has.forms.whole) };
+              count_is = rw read (omega (arith, h.kept.has.count_is, size));
+              index = rw read (index-pointer forms k mark s.index_area h.kept.has.index);
+            };
+            place = rw read (record { within = omega (arith, named.within, size); start_is = begins ∙ sym (start_of-set forms k form) });
           };
-          place = rw read (record { within = omega (arith, named.within, size); start_is = begins ∙ sym (start_of-set forms k form) });
-        };
-        distinct = rw read (own-set forms k form refl h.distinct);
-      }),
-    )
+          distinct = rw read (own-set forms k form refl h.distinct);
+        }),
+      )
 
 -- a form whose pointer is a place of its body has no mark
 pub no-mark : (n : ℕ) → n ≤ 16777216 → (n == mark) ≡ false
 no-mark n small = grind arith
 
+-- of two forms, `now` is the one that comes first
+pub record IsEarlier (a b now : Located) : Type 0 where
+  pub one : (now ≡ a) ⊎ (now ≡ b)
+  pub first : now.number ≤ a.number
+  pub second : now.number ≤ b.number
+
 -- where the first mark is or may be, once a form is marked
-pub marked-from : (forms : List Form) (k start : ℕ) (first now : Located) → IsMarkedFrom forms first.number first.start → k < length forms → start ≡ start_of forms k → (now ≡ first) ⊎ (now ≡ record { number = k; start = start }) → now.number ≤ first.number → now.number ≤ k → IsMarkedFrom (set forms k (marked (form_at forms k))) now.number now.start
-marked-from forms k start first now h within begins one before order =
+pub marked-from : (forms : List Form) (first at now : Located) → IsMarkedFrom forms first.number first.start → IsLocated forms at.number at.start → IsEarlier first at now → IsMarkedFrom (set forms at.number (marked (form_at forms at.number))) now.number now.start
+marked-from forms first at now h located earlier =
+    let k = at.number in
+    let within = located.within in
+    let before = earlier.first in
+    let order = earlier.second in
     let form = marked (form_at forms k) in
     let place : IsPlace forms now.number now.start = ⊎_elim
     (λ e. subst (λ (at : Located). IsPlace forms at.number at.start) (sym e) h.place)
-    (λ e. subst (λ (at : Located). IsPlace forms at.number at.start) (sym e) (record { within = omega (arith, within); start_is = begins }))
-    one in
+    (λ e. subst (λ (at : Located). IsPlace forms at.number at.start) (sym e) (record { within = omega (arith, within); start_is = located.start_is }))
+    earlier.one in
     record {
       place = record {
         within = omega (arith, place.within, length-set forms k form);
@@ -190,12 +204,12 @@ module _ (neutral : List Cell) (from end n : ℕ) (h : AreParted neutral from en
   pub texts-split : texts_between neutral from end ≡ part_text neutral from (from + n) ∷ texts_between neutral (from + n + 1) end
   texts-split = ap (part_texts neutral) parts-split
 
--- the marks of all names once that of the first is there
-pub marked-first : (neutral : List Cell) (from end n : ℕ) (s t : Lists) → AreParted neutral from end → from ≤ end → n ≡ before_comma (slice_range neutral from end) → t ≡ record s { store = flat_forms (with_marks (part_text neutral from (from + n) ∷ []) (forms_in s.store)) } → with_marks (texts_between neutral (from + n + 1) end) (forms_in t.store) ≡ with_marks (texts_between neutral from end) (forms_in s.store)
-marked-first neutral from end n s t h le is marked =
-    let name = part_text neutral from (from + n) in
-    let read : forms_in t.store ≡ with_marks (name ∷ []) (forms_in s.store) = ap (λ (w : Lists). forms_in w.store) marked ∙ forms_in-flat (with_marks (name ∷ []) (forms_in s.store)) in
-    ap (with_marks _) read ∙ sym (marks-first name _ (forms_in s.store)) ∙ ap (λ ts. with_marks ts (forms_in s.store)) (sym (texts-split neutral from end n h le is))
+  -- the marks of all names once that of the first is there
+  pub marked-first : (s t : Lists) → t ≡ record s { store = flat_forms (with_marks (part_text neutral from (from + n) ∷ []) (forms_in s.store)) } → with_marks (texts_between neutral (from + n + 1) end) (forms_in t.store) ≡ with_marks (texts_between neutral from end) (forms_in s.store)
+  marked-first s t marked =
+      let name = part_text neutral from (from + n) in
+      let read : forms_in t.store ≡ with_marks (name ∷ []) (forms_in s.store) = ap (λ (w : Lists). forms_in w.store) marked ∙ forms_in-flat (with_marks (name ∷ []) (forms_in s.store)) in
+      ap (with_marks _) read ∙ sym (marks-first name _ (forms_in s.store)) ∙ ap (λ ts. with_marks ts (forms_in s.store)) (sym (texts-split))
 
 -- marks change the store and the index area alone
 pub marked-alone : (old s t u : Lists) (cells : List Cell) → s ≡ record old { store = s.store; index_area = s.index_area } → t ≡ record s { index_area = t.index_area } → u ≡ record t { store = cells } → u ≡ record old { store = u.store; index_area = u.index_area }

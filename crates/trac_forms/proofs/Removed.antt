@@ -2,7 +2,7 @@
 use Rattle.trac_forms.proofs.Imports.{◌≡◌, ℕ, AreForms, List, length, take, sym, ap, refl, ◌∙◌, subst, arith, not, length-map, take_all, Text, Form, Lists, flat_forms, form_at, IsIndexed, forms_in, start_of, is_among, without_all, marked_if, with_marks, unmarked, IsFormed, IsMarkedFrom, forms_in-flat}
 use Rattle.trac_forms.proofs.Imports.{stands, pointer-within, shown, IsStored}
 use Rattle.trac_forms.proofs.Removals.{own-names, no-mark, unmarked-marks, IsStore-filter, cells-filter, length-marks}
-use Rattle.trac_forms.proofs.Strings.{used-stored, restored, shown-restored}
+use Rattle.trac_forms.proofs.Strings.{CanStand, used-stored, restored, shown-restored}
 
 -- forms of a `Work` have no mark
 pub none-marked : (s : Lists) (count last start : ℕ) → IsStored s count last start → IsMarkedFrom (forms_in s.store) (length (forms_in s.store)) (length s.store)
@@ -64,4 +64,9 @@ module _ {s t : Lists} {count last start : ℕ} (names : List Text) (h : IsStore
         let stays = λ (form : Form). not (is_among names form) in
         let fewer = cells-filter stays forms in
         let used = used-stored s h.forms.whole in
-        restored u.index_area s u (without_all names forms) left 0 0 (subst (IsIndexed u.index_area) rest index) h.sound (IsStore-filter stays forms h.sound.forms) (omega (arith, ap length h.forms.whole, fewer, used, h.sound.fits)) removed (counted ∙ ap length rest) (omega arith) refl
+        let can : CanStand s u.index_area (without_all names forms) = record {
+          index = subst (IsIndexed u.index_area) rest index;
+          distinct = IsStore-filter stays forms h.sound.forms;
+          room = omega (arith, ap length h.forms.whole, fewer, used, h.sound.fits);
+        } in
+        restored h u.index_area u (without_all names forms) left (record { number = 0; start = 0 }) can removed (counted ∙ ap length rest) (record { within = omega arith; start_is = refl })

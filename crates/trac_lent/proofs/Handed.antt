@@ -33,10 +33,19 @@ divides_16 w32 = tt
 divides_16 w64 = tt
 divides_16 w128 = tt
 
+-- n bytes are whole units, no more than `count`
+pub record AreUnits (count n : ℕ) : Type 0 where
+  pub fits : n ≤ count * 16
+  pub whole : n % 16 ≡ 0
+  pub small : n < 2 ^ 63
+
 -- the first units are room for a type of their size
-pub hands_out : {M : Type 1} {𝓤 : Ura M} (𝓛 : Logic 𝓤) (τ : Ty) (count n b o : ℕ) → capped (size τ) ≡ n → n ≤ count * 16 → n % 16 ≡ 0 → n < 2 ^ 63
+pub hands_out : {M : Type 1} {𝓤 : Ura M} (𝓛 : Logic 𝓤) (τ : Ty) (count n b o : ℕ) → capped (size τ) ≡ n → AreUnits count n
     → ent 𝓤 (sem 𝓛 (units_at count (block_ptr b o))) (𝓛.H.room τ b o)
-hands_out {𝓤 = 𝓤} 𝓛 τ count n b o sized fits whole small =
+hands_out {𝓤 = 𝓤} 𝓛 τ count n b o sized are =
+    let fits = are.fits in
+    let whole = are.whole in
+    let small = are.small in
     let H = 𝓛.H in
     let short : size τ < 2 ^ 63 = capped_small (size τ) (omega arith) in
     let same : n ≡ size τ = sym sized ∙ capped_is (size τ) (omega arith) in
@@ -51,7 +60,7 @@ hands_out {𝓤 = 𝓤} 𝓛 τ count n b o sized fits whole small =
 
 module _ {M : Type 1} {𝓤 : Ura M} {𝓛 : Logic 𝓤} {K : Type 0} {Γ : List (Item 𝓤)} {G : Goal 𝓤 𝓛.H} where
   pub taken : K → (n : ℕ) (x : Taken.Denot) (v : Val) → Told n x
-      → ((count b o : ℕ) → n ≤ count * 16 → n % 16 ≡ 0 → n < 2 ^ 63 → v ≡ live 1 (vcons (loan_val (block_ptr b o)) vnil)
+      → ((count b o : ℕ) → AreUnits count n → v ≡ live 1 (vcons (loan_val (block_ptr b o)) vnil)
       → Seq K 𝓛 (‵ (units_at count (block_ptr b o)) ∷ Γ) G) → (v ≡ live 0 vnil → Seq K 𝓛 Γ G) → Seq K 𝓛 (‵ (Taken.own_val x (v ∷ [])) ∷ Γ) G
   taken t n None v told some none =
       fpick t (λ us. fsplit t $ feq_l t (λ is. fpick t (λ vss. fsplit t $ feq_l t (λ is'. drop t $ none (ap only is ∙ ap (λ (ws : List Val). live 0 (of_list ws)) is')))))
@@ -59,5 +68,5 @@ module _ {M : Type 1} {𝓤 : Ura M} {𝓛 : Logic 𝓤} {K : Type 0} {Γ : List
       fpick t (λ us. fsplit t $ feq_l t (λ is. fpick t (λ vss. fsplit t $ feq_l t (λ is'. fsplit t $ move t (1 ∷ []) $ drop t $ fsplit t $ pure_l t (loan_own w.ptr vss.0) (λ s.
       let parts = loan_told w.ptr vss.0 s in
       in_a_block t w.ptr (λ p. units_at w.count p) (never_e 𝓤 _) (λ b o lies.
-      some w.count b o told.0 told.1 told.2
+      some w.count b o (record { fits = told.0; whole = told.1; small = told.2 })
       (ap only is ∙ ap (λ (xs : List Val). live 1 (of_list xs)) (is' ∙ ap (λ (xs : List Val). xs ++ []) parts.0) ∙ ap (λ (p : Ptr). live 1 (vcons (loan_val p) vnil)) lies)))))))

@@ -7,26 +7,26 @@ tag_of : (front was more : List Cell) (i : ℕ) → length front ≡ i → lengt
 tag_of front was more i size eight within =
     same_lists _ _ (search (rules, places)) (λ k d less. grind (arith, places))
 
--- eight bytes more are written
-pub block-more : (text : List ℕ) (was now new : List Cell) (i : ℕ) → length was ≡ length text → i + 8 ≤ length text → now ≡ written_up_to i text was → new ≡ bytes (slice_range text i (i + 8)) → put_mid i (i + 8 - i) now new ≡ written_up_to (i + 8) text was
-block-more text was now new i same within is made =
-    let front = take i text in
-    let more = slice_range text i (i + 8) in
-    let eight : i + 8 - i ≡ 8 = omega arith in
-    let front_len : length (bytes front) ≡ i = length-map front Byte ∙ length-take-le i text (omega arith) in
-    let more_len : length (bytes more) ≡ 8 = length-map more Byte ∙ length-between text i (i + 8) within ∙ eight in
-    let joined : front ++ more ≡ take (i + 8) text = sym (take-add i 8 text ∙ ap (λ n. front ++ take n (drop i text)) (sym eight)) in
-    rw (is, made)
-    (tag_of (bytes front) was (bytes more) i front_len more_len (omega arith)
-    ∙ ap (λ cells. cells ++ drop (i + 8) was) (sym (map-append Byte front more) ∙ ap bytes joined))
+module _ (text : List ℕ) (was now new : List Cell) (i : ℕ) (same : length was ≡ length text) where
+  -- eight bytes more are written
+  pub block-more : i + 8 ≤ length text → now ≡ written_up_to i text was → new ≡ bytes (slice_range text i (i + 8)) → put_mid i (i + 8 - i) now new ≡ written_up_to (i + 8) text was
+  block-more within is made =
+      let front = take i text in
+      let more = slice_range text i (i + 8) in
+      let eight : i + 8 - i ≡ 8 = omega arith in
+      let front_len : length (bytes front) ≡ i = length-map front Byte ∙ length-take-le i text (omega arith) in
+      let more_len : length (bytes more) ≡ 8 = length-map more Byte ∙ length-between text i (i + 8) within ∙ eight in
+      let joined : front ++ more ≡ take (i + 8) text = sym (take-add i 8 text ∙ ap (λ n. front ++ take n (drop i text)) (sym eight)) in
+      rw (is, made)
+      (tag_of (bytes front) was (bytes more) i front_len more_len (omega arith)
+      ∙ ap (λ cells. cells ++ drop (i + 8) was) (sym (map-append Byte front more) ∙ ap bytes joined))
+
+  -- eight bytes more are written, up to the place `end`
+  pub block-up_to : (end : ℕ) → end ≡ i + 8 → end ≤ length text → now ≡ written_up_to i text was → new ≡ bytes (slice_range text i end) → put_mid i (end - i) now new ≡ written_up_to end text was
+  block-up_to end e within is made = rw e (block-more (rw e at within) is (rw e at made))
 
 pub still-long : (now new : List Cell) (i n : ℕ) → length now ≡ n → i + 8 ≤ n → length new ≡ 8 → length (put_mid i (i + 8 - i) now new) ≡ n
 still-long now new i n long within eight = search (rules, places)
-
--- eight bytes more are written, up to the place `end`
-pub block-up_to : (text : List ℕ) (was now new : List Cell) (i end : ℕ) → end ≡ i + 8 → length was ≡ length text → end ≤ length text → now ≡ written_up_to i text was → new ≡ bytes (slice_range text i end) → put_mid i (end - i) now new ≡ written_up_to end text was
-block-up_to text was now new i end e same within is made =
-    rw e (block-more text was now new i same (rw e at within) is (rw e at made))
 
 pub long-up_to : (now new : List Cell) (i end n : ℕ) → end ≡ i + 8 → length now ≡ n → end ≤ n → length new ≡ 8 → length (put_mid i (end - i) now new) ≡ n
 long-up_to now new i end n e long within eight = rw e (still-long now new i n long (rw e at within) eight)

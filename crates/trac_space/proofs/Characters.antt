@@ -2,6 +2,7 @@
 use Rattle.trac_space.proofs.Imports.{◌≡◌, ◌↔◌, ℕ, ◌+◌, ◌<◌, ◌≤◌, true, false, IsTrue, nat_eq, All, List, [], ◌∷◌, ◌++◌, length, take, drop, map, get_or, slice_range, sum_by, refl, sym, ◌-◌, ap, ◌∙◌, subst, ⊎_elim, arith, rules, places, same_lists, length-drop, length-take-le, get_or-take}
 use Rattle.trac_space.proofs.Imports.{get_or-map, get_or-drop, take_more, drop_more, suc, take-map, drop-map, drop-drop, take-add, cases_lt, All-append, All-push, All-map, All-cons, All-head, All-tail, sum_by-cons, Cell, Byte, Call, Comma, seen, IsNoCall, IsByte, is_byte_cell, byte_cell_at}
 use Rattle.trac_space.proofs.Imports.{kind_number}
+use Rattle.trac_space.proofs.Blocks.{AreAll}
 
 -- a cell that is tested is a character
 pub tested-byte : (cell : Cell) → is_byte_cell cell ≡ true → IsByte cell
@@ -103,21 +104,25 @@ kinds-bytes (cell ∷ cells) all =
 pub none-is : (n : ℕ) → IsTrue (nat_eq n 0) ↔ n ≡ 0
 none-is n = grind arith
 
--- what holds of the first k cells and of the last m holds of all, where these are no more than both
-pub both-ends : (P : Cell → Type 0) (cells : List Cell) (at k m n : ℕ) → k ≤ n → m ≤ n → n ≤ k + m → at + n ≤ length cells → All P (take k (drop at cells)) → All P (take m (drop (at + (n - m)) cells)) → All P (take n (drop at cells))
-both-ends P cells at k m n front back twice within first last = λ i d less.
-    let size = length-take-le n (drop at cells) (omega (arith, length-drop at cells)) in
-    let here = get_or-take n (drop at cells) i d (omega arith) in
-    ⊎_elim
-    (λ below.
-    let there = get_or-take k (drop at cells) i d below in
-    let long = length-take-le k (drop at cells) (omega (arith, length-drop at cells)) in
-    subst P (there ∙ sym here) (first i d (omega arith)))
-    (λ past.
-    let j = i - (n - m) in
-    let rest = drop (at + (n - m)) cells in
-    let place : at + (n - m) + j ≡ at + i = omega arith in
-    let there = get_or-take m rest j d (omega arith) ∙ get_or-drop (at + (n - m)) cells j d ∙ ap (λ l. get_or cells l d) place ∙ sym (get_or-drop at cells i d) in
-    let long = length-take-le m rest (omega (arith, length-drop (at + (n - m)) cells)) in
-    subst P (there ∙ sym here) (last j d (omega arith)))
-    (cases_lt i k)
+module _ (P : Cell → Type 0) (cells : List Cell) (at : ℕ) where
+  -- what holds of the first k cells and of the last m holds of all, if these are all
+  pub both-ends : (k m n : ℕ) → AreAll k m n → at + n ≤ length cells → All P (take k (drop at cells)) → All P (take m (drop (at + (n - m)) cells)) → All P (take n (drop at cells))
+  both-ends k m n are within first last = λ i d less.
+      let front = are.first in
+      let back = are.last in
+      let twice = are.all in
+      let size = length-take-le n (drop at cells) (omega (arith, length-drop at cells)) in
+      let here = get_or-take n (drop at cells) i d (omega arith) in
+      ⊎_elim
+      (λ below.
+      let there = get_or-take k (drop at cells) i d below in
+      let long = length-take-le k (drop at cells) (omega (arith, length-drop at cells)) in
+      subst P (there ∙ sym here) (first i d (omega arith)))
+      (λ past.
+      let j = i - (n - m) in
+      let rest = drop (at + (n - m)) cells in
+      let place : at + (n - m) + j ≡ at + i = omega arith in
+      let there = get_or-take m rest j d (omega arith) ∙ get_or-drop (at + (n - m)) cells j d ∙ ap (λ l. get_or cells l d) place ∙ sym (get_or-drop at cells i d) in
+      let long = length-take-le m rest (omega (arith, length-drop (at + (n - m)) cells)) in
+      subst P (there ∙ sym here) (last j d (omega arith)))
+      (cases_lt i k)

@@ -7,6 +7,7 @@ use Rattle.std.proofs.Math.Seq.{drop-append_seam}
 use Rattle.std.proofs.lemmas.List.Elements.{All-drop}
 use Rattle.trac_space.proofs.Imports.{⊎_elim, ◌⊎◌, put_mid, drop_all, get_or_default, take-map, drop-map, drop-drop, map-append, take-take, append-nil, length-append, length-map, length-take-le, drop_more, get_or-take, All-head, All-tail, length-between, Cell, Byte, Comma, IsByte, is_byte_cell, is_comma}
 use Rattle.trac_space.proofs.Imports.{filling, filled, ordinal_of, IsPut, HaveCommas, parts_at, numbered_part, part_between}
+use Rattle.trac_space.specs.Filled.{PutsOnly}
 use Rattle.trac_space.specs.Tags.{has_tag, untagged, tag_of}
 
 -- what a copy to a place behind leaves
@@ -22,6 +23,19 @@ module _ (now new : List Cell) (start to n : ℕ) (apart : start + n ≤ to) (wi
 
   pub copied-source : (a r : ℕ) → a + r ≤ to → take r (drop a new) ≡ slice_range now a (a + r)
   copied-source a r before = rw is (same_lists _ _ (search (rules, places)) (λ i d less. grind (arith, places)))
+
+  -- the numbers over the first m of the copied cells are taken off
+  pub put-cleared : (cleared after : List Cell) (m : ℕ) → m ≤ n → cleared ≡ map untagged (take (to + m - to) (drop to new)) → after ≡ put_mid to (to + m - to) new cleared → map untagged (drop m (slice_range now start (start + n))) ≡ drop m (slice_range now start (start + n)) → (take to after ≡ take to now) × (drop to after ≡ map untagged (slice_range now start (start + n)) ++ drop (to + n) now)
+  put-cleared cleared after m few cleared_is after_is others =
+      let part = slice_range now start (start + n) in
+      let size : to + m - to ≡ m = omega arith in
+      let source : take (to + m - to) (drop to new) ≡ take m part = rw is (same_lists _ _ (search (rules, places)) (λ i d less. grind (arith, places))) in
+      let cleared_to : cleared ≡ map untagged (take m part) = cleared_is ∙ ap (map untagged) source in
+      let long : length cleared ≡ m = ap length cleared_to ∙ length-map (take m part) untagged ∙ length-take-le m part (omega (arith, few, length-between now start (start + n) (omega (arith, apart, within)))) in
+      let whole : map untagged part ≡ cleared ++ drop m part = ap (map untagged) (sym (take-append-drop m part)) ∙ map-append untagged (take m part) (drop m part) ∙ ap (λ l. map untagged (take m part) ++ l) others ∙ ap (λ l. l ++ drop m part) (sym cleared_to) in
+      let front : take to after ≡ take to now = rw (after_is, is) (same_lists _ _ (search (rules, places)) (λ i d less. grind (arith, reads))) in
+      let behind : drop to after ≡ (cleared ++ drop m part) ++ drop (to + n) now = rw (after_is, is) (same_lists _ _ (search (rules, places)) (λ i d less. grind (arith, reads))) in
+      (front, behind ∙ ap (λ l. l ++ drop (to + n) now) (sym whole))
 
 part-front : (cells : List Cell) (a b n : ℕ) → b ≤ n → n ≤ length cells → slice_range (take n cells) a b ≡ slice_range cells a b
 part-front cells a b n within long = same_lists _ _ (search (rules, places)) (λ i d less. grind (arith, places))
@@ -212,6 +226,10 @@ module _ {t : Task} where
         ap (λ i. drop i now) (sym e) ∙ sym (drop-drop (t.last - to) to now) ∙ ap (drop (t.last - to)) h.behind
         ∙ ap (λ k. drop k (h.done ++ drop t.last t.old)) d ∙ drop-append_seam h.done (drop t.last t.old)
 
+    -- what is put is known, and nothing else has changed
+    pub along-only : (result : Option ℕ) → IsPut t.old now t.low t.last (filled t.given (slice_range t.old t.from t.stop)) result → PutsOnly t.old now t.low t.last (filled t.given (slice_range t.old t.from t.stop)) result
+    along-only result put = record { put = put; len = h.size; front = h.front; behind = along-behind }
+
 -- what fills a cell that is no character
 pub filling-gap : (given : List Cell) (cell : Cell) → is_byte_cell cell ≡ false → filling given cell ≡ part_between given (ordinal_of cell)
 filling-gap given cell is = rw is refl
@@ -300,19 +318,6 @@ pub part-stands : (cells : List Cell) (start len from end : ℕ) → from ≤ en
 part-stands cells start len from end order within inside =
     let is : slice_range cells (start + from) (start + from + (end - from)) ≡ slice_range (slice_range cells start (start + len)) from end = same_lists _ _ (search (rules, places)) (λ i d less. grind (arith, places)) in
     ap (map untagged) is ∙ sym (take-map untagged (end - from) (drop from (slice_range cells start (start + len)))) ∙ ap (take (end - from)) (sym (drop-map untagged from (slice_range cells start (start + len))))
-
--- cells are copied, and the numbers over the first of them are taken off
-pub put-cleared : (now mid new cleared : List Cell) (start to n m : ℕ) → start + n ≤ to → to + n ≤ length now → m ≤ n → mid ≡ copy_within now start (start + n) to → cleared ≡ map untagged (take (to + m - to) (drop to mid)) → new ≡ put_mid to (to + m - to) mid cleared → map untagged (drop m (slice_range now start (start + n))) ≡ drop m (slice_range now start (start + n)) → (take to new ≡ take to now) × (drop to new ≡ map untagged (slice_range now start (start + n)) ++ drop (to + n) now)
-put-cleared now mid new cleared start to n m apart room few mid_is cleared_is new_is others =
-    let part = slice_range now start (start + n) in
-    let size : to + m - to ≡ m = omega arith in
-    let source : take (to + m - to) (drop to mid) ≡ take m part = rw mid_is (same_lists _ _ (search (rules, places)) (λ i d less. grind (arith, places))) in
-    let cleared_to : cleared ≡ map untagged (take m part) = cleared_is ∙ ap (map untagged) source in
-    let long : length cleared ≡ m = ap length cleared_to ∙ length-map (take m part) untagged ∙ length-take-le m part (omega (arith, few, length-between now start (start + n) (omega (arith, apart, room)))) in
-    let whole : map untagged part ≡ cleared ++ drop m part = ap (map untagged) (sym (take-append-drop m part)) ∙ map-append untagged (take m part) (drop m part) ∙ ap (λ l. map untagged (take m part) ++ l) others ∙ ap (λ l. l ++ drop m part) (sym cleared_to) in
-    let front : take to new ≡ take to now = rw (new_is, mid_is) (same_lists _ _ (search (rules, places)) (λ i d less. grind (arith, reads))) in
-    let behind : drop to new ≡ (cleared ++ drop m part) ++ drop (to + n) now = rw (new_is, mid_is) (same_lists _ _ (search (rules, places)) (λ i d less. grind (arith, reads))) in
-    (front, behind ∙ ap (λ l. l ++ drop (to + n) now) (sym whole))
 
 -- where no more than those have numbers
 pub others-less : (part : List Cell) (n k m : ℕ) → length part ≡ n → ((m ≡ k) ⊎ (m ≡ n)) → map untagged (drop k part) ≡ drop k part → map untagged (drop m part) ≡ drop m part

@@ -3,10 +3,6 @@ use Rattle.trac_space.proofs.Imports.{◌≡◌, ℕ, ◌+◌, ◌<◌, ◌≤�
 use Rattle.trac_space.proofs.Imports.{take-map, drop-append-le, drop_all, All-nil, All-push, All-map, elements, Cell, Byte, Comma, seen, is_comma, IsNoCall, NoCall, NoComma, IsByte, character_of, number_in, IsInRun, turned_by, turned, paste}
 use Rattle.trac_space.proofs.Characters.{tested-seen}
 
--- the cell that is next to be moved is as it was
-pub run-cell : (was now source : List Cell) (start to k : ℕ) (d : Cell) → to ≤ start → start + k < length was → k ≤ length source → now ≡ paste was to source k → get_or now (start + k) d ≡ get_or was (start + k) d
-run-cell was now source start to k d before within long is = grind (arith, places)
-
 -- a cell of a part that is all characters is one
 pub byte-at : (was : List Cell) (start k most : ℕ) (d : Cell) → k < most → start + most ≤ length was → All IsByte (take most (drop start was)) → IsByte (get_or was (start + k) d)
 byte-at was start k most d less within bytes = grind (arith, elements, bytes k d)
@@ -14,6 +10,16 @@ byte-at was start k most d less within bytes = grind (arith, elements, bytes k d
 module _ (table : List ℕ) (was : List Cell) (start k : ℕ) (d : Cell) (within : start + k < length was) where
   part_long : k < length (drop start was)
   part_long = omega (arith, length-drop start was)
+
+  turned_long : k < length (turned table (drop start was))
+  turned_long = omega (arith, part_long, length-map (drop start was) (turned_by table))
+
+  -- the next cell is as it was, where the first k were put from place `to` on
+  pub run-cell : (now : List Cell) (to : ℕ) → to ≤ start → now ≡ paste was to (turned table (drop start was)) k → get_or now (start + k) d ≡ get_or was (start + k) d
+  run-cell now to before is = same _ turned_long is
+    where
+      same : (source : List Cell) → k < length source → now ≡ paste was to source k → get_or now (start + k) d ≡ get_or was (start + k) d
+      same source long is = grind (arith, places)
 
   -- one character more of the run
   pub run-more : All (IsInRun table) (take k (drop start was)) → IsInRun table (get_or was (start + k) d) → All (IsInRun table) (take (k + 1) (drop start was))
@@ -28,7 +34,7 @@ module _ (table : List ℕ) (was : List Cell) (start k : ℕ) (d : Cell) (within
   pub no_comma_from-more : (last : ℕ) → last ≤ k → is_comma (turned_by table (get_or was (start + k) d)) ≡ false → NoComma (drop last (take k (turned table (drop start was)))) → NoComma (drop last (take (k + 1) (turned table (drop start was))))
   no_comma_from-more last order none no_comma_from =
       let cells = turned table (drop start was) in
-      let long : k < length cells = omega (arith, part_long, length-map (drop start was) (turned_by table)) in
+      let long = turned_long in
       let size : last ≤ length (take k cells) = omega (arith, length-take-le k cells (omega (arith, long))) in
       rw (take_more cells k (turned_by table d) long, drop-append-le last (take k cells) (get_or cells k (turned_by table d) ∷ []) size)
       (All-push (λ cell. is_comma cell ≡ false) _ _ no_comma_from (ap is_comma turned-at ∙ none))

@@ -1,27 +1,27 @@
 -- Bytes up to the first that is looked for.
-use Rattle.trac_space.proofs.Imports.{◌≡◌, ℕ, ◌+◌, ◌-◌, ◌<◌, ◌≤◌, Bool, true, false, List, length, take, drop, slice_range, slice_get, Some, refl, sym, ◌∙◌, arith, rules, list_any, take-add, places, same_lists, list_any-append, elements, false≢true}
+use Rattle.trac_space.proofs.Imports.{◌≡◌, ℕ, ◌+◌, ◌-◌, ◌<◌, ◌≤◌, Bool, true, false, List, length, take, drop, slice_range, slice_get, Some, refl, sym, arith, rules, list_any, take-add, places, same_lists, list_any-append, elements, false≢true}
 use Rattle.std.specs.Prelude.{◌||◌}
-
--- no byte that is looked for is among the first k, if none is, nor among the n behind these
-pub none-more : (test : ℕ → Bool) (bytes : List ℕ) (k n : ℕ) → list_any test (take k bytes) ≡ false → list_any test (take n (drop k bytes)) ≡ false → list_any test (take (k + n) bytes) ≡ false
-none-more test bytes k n first next = rw (take-add, list_any-append, first, next)
-
--- no byte that is looked for stands before `e`, if none stands before k and none was found from there up to `e`
-pub none-next : (test : ℕ → Bool) (bytes : List ℕ) (k e : ℕ) (found : Bool) → k ≤ e → list_any test (take k bytes) ≡ false → found ≡ list_any test (slice_range bytes k e) → found ≡ false → list_any test (take e bytes) ≡ false
-none-next test bytes k e found order none looked not_found =
-    let up_to : k + (e - k) ≡ e = omega (arith, order) in
-    rw up_to at (none-more test bytes k (e - k) none (sym looked ∙ not_found))
 
 neither : (a b : Bool) → (a || b) ≡ false → (a ≡ false) × (b ≡ false)
 neither true b e = absurd (false≢true (sym e))
 neither false b e = (refl, e)
 
--- no byte that is looked for stands before `e`, if none stands before k and none was found in the two parts from k
--- up to m and from m up to `e`
-pub none-twice : (test : ℕ → Bool) (bytes : List ℕ) (k m e : ℕ) (a b : Bool) → k ≤ m → m ≤ e → list_any test (take k bytes) ≡ false → a ≡ list_any test (slice_range bytes k m) → b ≡ list_any test (slice_range bytes m e) → (a || b) ≡ false → list_any test (take e bytes) ≡ false
-none-twice test bytes k m e a b below behind none first second both =
-    let parts = neither a b both in
-    none-next test bytes m e b behind (none-next test bytes k m a below none first parts.0) second parts.1
+module _ (test : ℕ → Bool) (bytes : List ℕ) where
+  -- no byte that is looked for is among the first k, if none is, nor among the n behind these
+  pub none-more : (k n : ℕ) → list_any test (take k bytes) ≡ false → list_any test (take n (drop k bytes)) ≡ false → list_any test (take (k + n) bytes) ≡ false
+  none-more k n first next = rw (take-add, list_any-append, first, next)
+
+  -- no byte that is looked for stands before `e`, if none stands before k nor from there up to `e`
+  pub none-next : (k e : ℕ) → k ≤ e → list_any test (take k bytes) ≡ false → list_any test (slice_range bytes k e) ≡ false → list_any test (take e bytes) ≡ false
+  none-next k e order none next =
+      let up_to : k + (e - k) ≡ e = omega (arith, order) in
+      rw up_to at (none-more k (e - k) none next)
+
+  -- no byte that is looked for stands before `e`, if none stands before k, from k up to m, nor from m up to `e`
+  pub none-twice : (k m e : ℕ) → k ≤ m → m ≤ e → list_any test (take k bytes) ≡ false → (list_any test (slice_range bytes k m) || list_any test (slice_range bytes m e)) ≡ false → list_any test (take e bytes) ≡ false
+  none-twice k m e below behind none next =
+      let parts = neither (list_any test (slice_range bytes k m)) (list_any test (slice_range bytes m e)) next in
+      none-next m e behind (none-next k m below none parts.0) parts.1
 
 -- the first of a part
 pub front-of_part : (bytes : List ℕ) (a b n : ℕ) → n ≤ b - a → take n (slice_range bytes a b) ≡ take n (drop a bytes)

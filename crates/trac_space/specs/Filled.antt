@@ -1,5 +1,5 @@
 -- Cells whose gaps are filled by what stands between the comma marks of others.
-use Rattle.std.specs.Prelude.{◌≡◌, ℕ, suc, true, ◌+◌, ◌<◌, ◌≤◌, List, [], ◌∷◌, ◌++◌, length, drop, map}
+use Rattle.std.specs.Prelude.{◌≡◌, ℕ, suc, true, ◌+◌, ◌<◌, ◌≤◌, List, [], ◌∷◌, ◌++◌, length, take, drop, map}
 use Rattle.std.specs.Prelude.{slice_range, slice_index_or, if◌then◌else◌, Option, MatchOption}
 use Rattle.trac_space.specs.declared.cell.Cell.{Cell}
 use Rattle.trac_space.specs.declared.filling.ArgumentTable.{ArgumentTable}
@@ -68,3 +68,23 @@ IsPut was now low to more result =
     MatchOption result
     (to < low + length more)
     (λ start. (start + length more ≡ to) × (low ≤ start) × (drop start now ≡ more ++ drop to was))
+
+-- the cells from `from` up to `stop` can be copied to a place behind the given cells, so that the copy ends before
+-- place `to` and begins at `low` or behind
+pub record CanFill
+    (cells : List Cell) (from stop low to : ℕ) (given : ArgumentTable) : Type 0 where
+  pub order : from ≤ stop
+  pub before : stop ≤ given.start
+  pub behind : given.start + given.len ≤ low
+  pub room : low ≤ to
+  pub inside : to ≤ length cells
+  pub table : IsArgumentTable cells given
+
+-- more cells were put right before place `to`, or would begin before `low`; only the cells from `low` up to `to`
+-- have changed
+pub record PutsOnly
+    (old new : List Cell) (low to : ℕ) (more : List Cell) (result : Option ℕ) : Type 0 where
+  pub put : IsPut old new low to more result
+  pub len : length new ≡ length old
+  pub front : take low new ≡ take low old
+  pub behind : drop to new ≡ drop to old

@@ -9,9 +9,16 @@ ghost use Rattle.trac_space.specs.Texts.{IsByte, byte_cell_at};
 use crate::cell::{Cell, are_characters, are_four, are_two, byte_in, is_character};
 use crate::copies::BLOCK;
 
+/// A run of characters, each kept or turned into a comma mark: how many they are, and from which of them on
+/// none is a comma mark.
+#[derive(Clone, Copy)]
+pub struct CharacterRun {
+    pub len: u32,
+    pub no_comma_from: u32,
+}
+
 // Copies characters to a lower place, at most `most`. `table` has a number for each byte: 0 keeps the
-// character, 1 makes it a comma mark, a higher number ends the run before it. Gives the length of the
-// run, and the place in it behind its last comma mark.
+// character, 1 makes it a comma mark, a higher number ends the run before it. Gives the run.
 #[inline]
 pub(crate) fn translate_run(
     cells: &mut [Cell],
@@ -19,24 +26,25 @@ pub(crate) fn translate_run(
     to: usize,
     most: usize,
     table: &[u8],
-) -> (usize, usize)
+) -> CharacterRun
     requires before { to ≤ start }
     requires within { start + most ≤ length cells.old }
     requires bytes { All IsByte (take most (drop start cells.old)) }
     requires whole { length table.now ≡ 256 }
-    ensures few { result.0 ≤ most }
-    ensures run { All (IsInRun table.now) (take result.0 (drop start cells.old)) }
-    ensures ends { result.0 < most →
-        1 < number_in table.now (slice_index_or cells.old (start + result.0) (Byte 0)) }
-    ensures last { result.1 ≤ result.0 }
-    ensures no_comma_from { NoComma (drop result.1 (take result.0
+    requires bounded { length cells.old ≤ 16777216 }
+    ensures few { result.len ≤ most }
+    ensures run { All (IsInRun table.now) (take result.len (drop start cells.old)) }
+    ensures ends { result.len < most →
+        1 < number_in table.now (slice_index_or cells.old (start + result.len) (Byte 0)) }
+    ensures last { result.no_comma_from ≤ result.len }
+    ensures no_comma_from { NoComma (drop result.no_comma_from (take result.len
         (turned table.now (drop start cells.old)))) }
     ensures len { length cells.new ≡ length cells.old }
     ensures after { cells.new ≡
-        with_cells_at cells.old to (turned table.now (drop start cells.old)) result.0 }
+        with_cells_at cells.old to (turned table.now (drop start cells.old)) result.len }
 {
     let mut count = 0;
-    let mut last = 0;
+    let mut no_comma_from = 0;
     while count < most {
         let byte = byte_in(&cells[start + count]);
         let number = table[usize::from(byte)];
@@ -44,13 +52,16 @@ pub(crate) fn translate_run(
             cells[to + count] = Cell::Byte(byte);
         } else if number == 1 {
             cells[to + count] = Cell::Comma;
-            last = count + 1;
+            no_comma_from = count + 1;
         } else {
-            return (count, last);
+            break;
         }
         count += 1;
     }
-    (count, last)
+    CharacterRun {
+        len: count as u32,
+        no_comma_from: no_comma_from as u32,
+    }
 }
 
 // Whether the `n` cells from place `at` on are all characters. Tests eight cells at a time; the last

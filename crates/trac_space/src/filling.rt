@@ -7,7 +7,7 @@ ghost use Rattle.trac_space.specs.declared.cell.Cell.TheVariants.{Comma};
 ghost use Rattle.trac_space.specs.Cells.{NoComma};
 ghost use Rattle.trac_space.specs.Filled.{IsArgumentTable, table_cells, ordinal_of, part_between};
 ghost use Rattle.trac_space.specs.Filled.{filling, filled, HaveCommas};
-ghost use Rattle.trac_space.specs.Filled.{IsPut, parts_at, numbered_part};
+ghost use Rattle.trac_space.specs.Filled.{CanFill, PutsOnly, parts_at, numbered_part};
 ghost use Rattle.trac_space.specs.Tags.{takes_tag, untagged};
 
 use crate::cell::{Cell, is_character, is_comma};
@@ -22,6 +22,13 @@ pub(crate) struct ArgumentTable {
     pub(crate) start: usize,
     pub(crate) len: usize,
     pub(crate) commas: usize,
+}
+
+// Cells of a block: where they begin, and how many they are.
+#[derive(Clone, Copy)]
+struct Span {
+    start: usize,
+    len: usize,
 }
 
 /// Lays the places of the comma marks over the first cells, in order, and gives how many they are. None
@@ -58,17 +65,9 @@ pub(crate) fn fill_cells(
     to: usize,
     given: ArgumentTable,
 ) -> Option<usize>
-    requires order { from ≤ stop }
-    requires before { stop ≤ given.start }
-    requires behind { given.start + given.len ≤ low }
-    requires room { low ≤ to }
-    requires inside { to ≤ length cells.old }
-    requires given { IsArgumentTable cells.old given }
-    ensures put { let more = filled (table_cells cells.old given) (slice_range cells.old from stop) in
-        IsPut cells.old cells.new low to more result }
-    ensures len { length cells.new ≡ length cells.old }
-    ensures front { take low cells.new ≡ take low cells.old }
-    ensures behind { drop to cells.new ≡ drop to cells.old }
+    requires { CanFill cells.old from stop low to given }
+    ensures { let more = filled (table_cells cells.old given) (slice_range cells.old from stop) in
+        PutsOnly cells.old cells.new low to more result }
 {
     let mut at = stop;
     let mut to = to;
@@ -84,12 +83,12 @@ pub(crate) fn fill_cells(
             continue;
         }
         at -= 1;
-        let (start, n) = part_numbered(cells, ordinal_in(cells[at]), given);
-        if n > to - low {
+        let part = part_numbered(cells, ordinal_in(cells[at]), given);
+        if part.len > to - low {
             return None;
         }
-        to -= n;
-        put_untagged(cells, start, to, n, given);
+        to -= part.len;
+        put_untagged(cells, part.start, to, part.len, given);
     }
     fill_each(cells, from, at, low, to, given)
 }
@@ -104,28 +103,20 @@ fn fill_each(
     to: usize,
     given: ArgumentTable,
 ) -> Option<usize>
-    requires order { from ≤ stop }
-    requires before { stop ≤ given.start }
-    requires behind { given.start + given.len ≤ low }
-    requires room { low ≤ to }
-    requires inside { to ≤ length cells.old }
-    requires given { IsArgumentTable cells.old given }
-    ensures put { let more = filled (table_cells cells.old given) (slice_range cells.old from stop) in
-        IsPut cells.old cells.new low to more result }
-    ensures len { length cells.new ≡ length cells.old }
-    ensures front { take low cells.new ≡ take low cells.old }
-    ensures behind { drop to cells.new ≡ drop to cells.old }
+    requires { CanFill cells.old from stop low to given }
+    ensures { let more = filled (table_cells cells.old given) (slice_range cells.old from stop) in
+        PutsOnly cells.old cells.new low to more result }
 {
     let mut at = stop;
     let mut to = to;
     while from < at {
         at -= 1;
-        let (start, n) = filling_of(cells, at, given);
-        if n > to - low {
+        let filling = filling_of(cells, at, given);
+        if filling.len > to - low {
             return None;
         }
-        to -= n;
-        put_untagged(cells, start, to, n, given);
+        to -= filling.len;
+        put_untagged(cells, filling.start, to, filling.len, given);
     }
     Some(to)
 }
@@ -183,44 +174,49 @@ fn distance(start: usize, to: usize) -> usize
     (to - start) as u32 as usize
 }
 
-// Where the cells begin that stand for the one at place `at`, and how many they are: a character stands
-// for itself, the part of its ordinal for a gap.
+// The cells that stand for the one at place `at`: a character stands for itself, the part of its ordinal
+// for a gap.
 #[inline]
-fn filling_of(cells: &[Cell], at: usize, given: ArgumentTable) -> (usize, usize)
+fn filling_of(cells: &[Cell], at: usize, given: ArgumentTable) -> Span
     requires before { at < given.start }
     requires given { IsArgumentTable cells.now given }
-    ensures within { result.0 + result.1 ≤ given.start + given.len }
-    ensures cells { map untagged (slice_range cells.now result.0 (result.0 + result.1)) ≡
+    ensures within { result.start + result.len ≤ given.start + given.len }
+    ensures cells { map untagged (slice_range cells.now result.start (result.start + result.len)) ≡
         filling (table_cells cells.now given) (slice_index_or cells.now at Comma) }
     ensures others { let tagged = given.start + given.commas in
-        let rest = drop (tagged - result.0) (slice_range cells.now result.0 (result.0 + result.1)) in
+        let rest = drop (tagged - result.start) (slice_range cells.now result.start (result.start + result.len)) in
         map untagged rest ≡ rest }
 {
     if is_character(&cells[at]) {
-        return (at, 1);
+        return Span { start: at, len: 1 };
     }
     part_numbered(cells, ordinal_in(cells[at]), given)
 }
 
-// Where the part of this number, from 1, begins, and how many cells it has: none if there is no such
-// part.
+// The cells of the part of this number, from 1: none if there is no such part.
 #[inline(always)]
-fn part_numbered(cells: &[Cell], number: u32, given: ArgumentTable) -> (usize, usize)
+fn part_numbered(cells: &[Cell], number: u32, given: ArgumentTable) -> Span
     requires { IsArgumentTable cells.now given }
-    ensures within { result.0 + result.1 ≤ given.start + given.len }
-    ensures cells { map untagged (slice_range cells.now result.0 (result.0 + result.1)) ≡
+    ensures within { result.start + result.len ≤ given.start + given.len }
+    ensures cells { map untagged (slice_range cells.now result.start (result.start + result.len)) ≡
         part_between (table_cells cells.now given) number }
     ensures others { let tagged = given.start + given.commas in
-        let rest = drop (tagged - result.0) (slice_range cells.now result.0 (result.0 + result.1)) in
+        let rest = drop (tagged - result.start) (slice_range cells.now result.start (result.start + result.len)) in
         map untagged rest ≡ rest }
 {
     let place = number.wrapping_sub(1) as usize;
     if place > given.commas {
-        return (given.start, 0);
+        return Span {
+            start: given.start,
+            len: 0,
+        };
     }
     let from = part_begin(cells, place, given);
     let end = part_end(cells, place, given);
-    (given.start + from, end - from)
+    Span {
+        start: given.start + from,
+        len: end - from,
+    }
 }
 
 // Where the part behind `place` comma marks begins, counted from the first of the given cells.

@@ -61,40 +61,41 @@ byte-takes : (cell : Cell) → IsByte cell → Takes cell
 byte-takes (Byte b) is = refl
 byte-takes cell is = absurd is
 
--- cells that comma marks part into texts can take numbers
-parted-take : (neutral cells : List Cell) (from at end : ℕ) → from ≤ at → at ≤ end → end ≤ length neutral → cells ≡ slice_range neutral at end → AreTextParts neutral (parts_at from at cells) → All Takes cells
-parted-take neutral [] from at end order up within is are = All-nil Takes
-parted-take neutral (cell ∷ cells) from at end order up within is are =
-    ⊎_elim
-    (λ less.
-    let split : end - at ≡ suc (end - (at + 1)) = omega (arith, less) in
-    let whole : cell ∷ cells ≡ get_or neutral at Comma ∷ slice_range neutral (at + 1) end = is ∙ ap (λ n. take n (drop at neutral)) split ∙ ap (take (suc (end - (at + 1)))) (drop_more neutral at Comma (omega (arith, less, within))) in
-    let here : cell ≡ get_or neutral at Comma = ap (λ l. get_or l 0 Comma) whole in
-    let rest : cells ≡ slice_range neutral (at + 1) end = ap (drop 1) whole in
-    go (is_comma cell) (parted-take neutral cells (at + 1) (at + 1) end) (parted-take neutral cells from (at + 1) end) refl here rest less are)
-    (λ past.
-    let none : end - at ≡ 0 = omega (arith, past) in
-    let long : length (cell ∷ cells) ≡ 0 = ap length is ∙ ap (λ n. length (take n (drop at neutral))) none in
-    absurd (omega (arith, long)))
-    (cases_lt at end)
-  where
-    go : (b : Bool) → (at + 1 ≤ at + 1 → at + 1 ≤ end → end ≤ length neutral → cells ≡ slice_range neutral (at + 1) end → AreTextParts neutral (parts_at (at + 1) (at + 1) cells) → All Takes cells) → (from ≤ at + 1 → at + 1 ≤ end → end ≤ length neutral → cells ≡ slice_range neutral (at + 1) end → AreTextParts neutral (parts_at from (at + 1) cells) → All Takes cells) → is_comma cell ≡ b → cell ≡ get_or neutral at Comma → cells ≡ slice_range neutral (at + 1) end → at < end → AreTextParts neutral (cond b ((from, at) ∷ parts_at (at + 1) (at + 1) cells) (parts_at from (at + 1) cells)) → All Takes (cell ∷ cells)
-    go true other one comma here rest less are =
-        All-cons Takes cell cells (comma-takes cell comma) (other (omega arith) (omega (arith, less)) within rest (All-tail (λ (p : ℕ × ℕ). IsTextPart neutral p.0 p.1) (from, at) (parts_at (at + 1) (at + 1) cells) are))
-    go false other one is_other here rest less are =
-        let parts = parts_at from (at + 1) cells in
-        let first : IsTextPart neutral (get_or parts 0 (0, 0)).0 (get_or parts 0 (0, 0)).1 = All-get_or (λ (p : ℕ × ℕ). IsTextPart neutral p.0 p.1) parts 0 (0, 0) (some-parts from (at + 1) cells) are in
-        let begin : (get_or parts 0 (0, 0)).0 ≡ from = first-begin from (at + 1) cells in
-        let stop = first-end from (at + 1) cells in
-        let last = (get_or parts 0 (0, 0)).1 in
-        let part : IsTextPart neutral from last = subst (λ a. IsTextPart neutral a last) begin first in
-        let ordered = part.order in
-        let inside = part.within in
-        let text = slice_range neutral from last in
-        let place : at - from < length text = omega (arith, stop, order, length-between neutral from last inside) in
-        let byte : IsByte (get_or text (at - from) Comma) = All-get_or IsByte text (at - from) Comma place part.bytes in
-        let read : get_or text (at - from) Comma ≡ get_or neutral at Comma = grind (arith, places) in
-        All-cons Takes cell cells (byte-takes cell (subst IsByte (read ∙ sym here) byte)) (one (omega (arith, order)) (omega (arith, less)) within rest are)
+module _ (neutral : List Cell) (end : ℕ) (within : end ≤ length neutral) where
+  -- cells that comma marks part into texts can take numbers
+  parted-take : (cells : List Cell) (from at : ℕ) → from ≤ at → at ≤ end → cells ≡ slice_range neutral at end → AreTextParts neutral (parts_at from at cells) → All Takes cells
+  parted-take [] from at order up is are = All-nil Takes
+  parted-take (cell ∷ cells) from at order up is are =
+      ⊎_elim
+      (λ less.
+      let split : end - at ≡ suc (end - (at + 1)) = omega (arith, less) in
+      let whole : cell ∷ cells ≡ get_or neutral at Comma ∷ slice_range neutral (at + 1) end = is ∙ ap (λ n. take n (drop at neutral)) split ∙ ap (take (suc (end - (at + 1)))) (drop_more neutral at Comma (omega (arith, less, within))) in
+      let here : cell ≡ get_or neutral at Comma = ap (λ l. get_or l 0 Comma) whole in
+      let rest : cells ≡ slice_range neutral (at + 1) end = ap (drop 1) whole in
+      go (is_comma cell) (parted-take cells (at + 1) (at + 1)) (parted-take cells from (at + 1)) refl here rest less are)
+      (λ past.
+      let none : end - at ≡ 0 = omega (arith, past) in
+      let long : length (cell ∷ cells) ≡ 0 = ap length is ∙ ap (λ n. length (take n (drop at neutral))) none in
+      absurd (omega (arith, long)))
+      (cases_lt at end)
+    where
+      go : (b : Bool) → (at + 1 ≤ at + 1 → at + 1 ≤ end → cells ≡ slice_range neutral (at + 1) end → AreTextParts neutral (parts_at (at + 1) (at + 1) cells) → All Takes cells) → (from ≤ at + 1 → at + 1 ≤ end → cells ≡ slice_range neutral (at + 1) end → AreTextParts neutral (parts_at from (at + 1) cells) → All Takes cells) → is_comma cell ≡ b → cell ≡ get_or neutral at Comma → cells ≡ slice_range neutral (at + 1) end → at < end → AreTextParts neutral (cond b ((from, at) ∷ parts_at (at + 1) (at + 1) cells) (parts_at from (at + 1) cells)) → All Takes (cell ∷ cells)
+      go true other one comma here rest less are =
+          All-cons Takes cell cells (comma-takes cell comma) (other (omega arith) (omega (arith, less)) rest (All-tail (λ (p : ℕ × ℕ). IsTextPart neutral p.0 p.1) (from, at) (parts_at (at + 1) (at + 1) cells) are))
+      go false other one is_other here rest less are =
+          let parts = parts_at from (at + 1) cells in
+          let first : IsTextPart neutral (get_or parts 0 (0, 0)).0 (get_or parts 0 (0, 0)).1 = All-get_or (λ (p : ℕ × ℕ). IsTextPart neutral p.0 p.1) parts 0 (0, 0) (some-parts from (at + 1) cells) are in
+          let begin : (get_or parts 0 (0, 0)).0 ≡ from = first-begin from (at + 1) cells in
+          let stop = first-end from (at + 1) cells in
+          let last = (get_or parts 0 (0, 0)).1 in
+          let part : IsTextPart neutral from last = subst (λ a. IsTextPart neutral a last) begin first in
+          let ordered = part.order in
+          let inside = part.within in
+          let text = slice_range neutral from last in
+          let place : at - from < length text = omega (arith, stop, order, length-between neutral from last inside) in
+          let byte : IsByte (get_or text (at - from) Comma) = All-get_or IsByte text (at - from) Comma place part.bytes in
+          let read : get_or text (at - from) Comma ≡ get_or neutral at Comma = grind (arith, places) in
+          All-cons Takes cell cells (byte-takes cell (subst IsByte (read ∙ sym here) byte)) (one (omega (arith, order)) (omega (arith, less)) rest are)
 
 -- where the first of them begins: at the end where there is none
 pub record IsBegin (first end from : ℕ) : Type 0 where
@@ -127,7 +128,7 @@ module _ (neutral : List Cell) (first end from : ℕ) (begin : IsBegin first end
       (λ le.
       let yes : nat_le first end ≡ true = grind (arith, le) in
       let parts : AreTextParts neutral (parts_at first first (slice_range neutral first end)) = rw yes at are in
-      subst (λ n. All Takes (slice_range neutral n end)) (sym (begin.some le)) (parted-take neutral (slice_range neutral first end) first first end (omega arith) le within refl parts))
+      subst (λ n. All Takes (slice_range neutral n end)) (sym (begin.some le)) (parted-take neutral end within (slice_range neutral first end) first first (omega arith) le refl parts))
       (cases_lt end first)
 
   -- the part of a number is its text
@@ -195,19 +196,19 @@ module _ (was now : List Cell) (a b : ℕ) (order : a ≤ b) (within : b ≤ len
       let middle : slice_range (take a now ++ mid ++ drop b now) a b ≡ mid = same_lists _ _ (search (rules, places)) (λ i d less. grind (arith, places)) in
       sym middle ∙ ap (λ l. slice_range l a b) numbers
 
--- only the first of the cells have numbers
-pub numbers-fewer : (was now : List Cell) (a b n : ℕ) → a ≤ b → b ≤ length was → HaveTags was now a b → n ≤ length (slice_range now a b) → map untagged (drop n (slice_range now a b)) ≡ drop n (slice_range now a b) → HaveTags was now a (a + n)
-numbers-fewer was now a b n order within numbers few others =
-    let size = numbers-long was now a b order within numbers in
-    let part = slice_range now a b in
-    let long : length part ≡ b - a = length-between now a b (omega (arith, within, size)) in
-    let some : n ≤ b - a = omega (arith, few, long) in
-    let inside : b ≤ length now = omega (arith, within, size) in
-    let front : slice_range now a (a + n) ≡ take n part = same_lists _ _ (search (rules, places)) (λ i d less. grind (arith, places)) in
-    let rest : drop (a + n) now ≡ drop n part ++ drop b now = same_lists _ _ (search (rules, places)) (λ i d less. grind (arith, places)) in
-    let whole : map untagged part ≡ map untagged (take n part) ++ drop n part = ap (map untagged) (sym (take-append-drop n part)) ∙ map-append untagged (take n part) (drop n part) ∙ ap (λ l. map untagged (take n part) ++ l) others in
-    ap (λ l. take a now ++ map untagged l ++ drop (a + n) now) front
-    ∙ ap (λ l. take a now ++ map untagged (take n part) ++ l) rest
-    ∙ sym (append_assoc (take a now ++ map untagged (take n part)) (drop n part) (drop b now))
-    ∙ ap (λ l. l ++ drop b now) (append_assoc (take a now) (map untagged (take n part)) (drop n part) ∙ ap (λ l. take a now ++ l) (sym whole))
-    ∙ numbers
+  -- only the first of the cells have numbers
+  pub numbers-fewer : (n : ℕ) → n ≤ length (slice_range now a b) → map untagged (drop n (slice_range now a b)) ≡ drop n (slice_range now a b) → HaveTags was now a (a + n)
+  numbers-fewer n few others =
+      let size = numbers-long in
+      let part = slice_range now a b in
+      let long : length part ≡ b - a = length-between now a b (omega (arith, within, size)) in
+      let some : n ≤ b - a = omega (arith, few, long) in
+      let inside : b ≤ length now = omega (arith, within, size) in
+      let front : slice_range now a (a + n) ≡ take n part = same_lists _ _ (search (rules, places)) (λ i d less. grind (arith, places)) in
+      let rest : drop (a + n) now ≡ drop n part ++ drop b now = same_lists _ _ (search (rules, places)) (λ i d less. grind (arith, places)) in
+      let whole : map untagged part ≡ map untagged (take n part) ++ drop n part = ap (map untagged) (sym (take-append-drop n part)) ∙ map-append untagged (take n part) (drop n part) ∙ ap (λ l. map untagged (take n part) ++ l) others in
+      ap (λ l. take a now ++ map untagged l ++ drop (a + n) now) front
+      ∙ ap (λ l. take a now ++ map untagged (take n part) ++ l) rest
+      ∙ sym (append_assoc (take a now ++ map untagged (take n part)) (drop n part) (drop b now))
+      ∙ ap (λ l. l ++ drop b now) (append_assoc (take a now) (map untagged (take n part)) (drop n part) ∙ ap (λ l. take a now ++ l) (sym whole))
+      ∙ numbers

@@ -1,8 +1,11 @@
 -- The text of a form whose gaps are filled, part by part.
-use Rattle.trac_store.proofs.Imports.{◌≡◌, ℕ, ◌+◌, ◌-◌, ◌<◌, ◌≤◌, List, [], ◌∷◌, length, drop, map, get_or, slice_range, All, refl, sym, ap, ◌∙◌, arith, subst, ⊎_elim, cases_lt, drop-map}
+use Rattle.trac_store.proofs.Imports.{◌≡◌, ℕ, ◌+◌, ◌-◌, ◌≤◌, List, [], ◌∷◌, length, drop, map, get_or, slice_range, All, refl, sym, ap, ◌∙◌, arith, subst, ⊎_elim, cases_lt, drop-map}
 use Rattle.trac_store.proofs.Imports.{length-map, get_or_past, All-head, All-tail, All-nil, All-cons, All-get_or, length-between, Item, Text, fill, IsStore, Cell, Byte, Lists}
 use Rattle.trac_store.proofs.Imports.{flat_text, text_of_cells, character_of, IsByte, flat_item, flat_forms, IsTextPart, part_text, AreTextParts, part_texts, form_at, name_at, body_at, pointer_at}
-use Rattle.trac_store.proofs.Imports.{item_of, forms_in, start_of, begins}
+use Rattle.trac_store.proofs.Imports.{item_of, forms_in}
+use Rattle.trac_store.specs.Stored.{IsLocated}
+use Rattle.trac_store.specs.declared.form_heads.Heads.{Heads}
+use Rattle.trac_store.specs.declared.located.Located.{Located}
 use Rattle.std.proofs.Math.ListN.{get_or-map as get_or-map-same}
 use Rattle.trac_store.proofs.Places.{stands}
 use Rattle.trac_store.proofs.DistinctForms.{pointer-within}
@@ -46,27 +49,31 @@ module _ (neutral : List Cell) (parts : List (ℕ × ℕ)) (are : AreTextParts n
   pub part-text : (k : ℕ) → part_text neutral (get_or ((0, 0) ∷ parts) k (0, 0)).0 (get_or ((0, 0) ∷ parts) k (0, 0)).1 ≡ get_or ([] ∷ part_texts neutral parts) k []
   part-text k = sym (get_or-map-same (λ part. part_text neutral part.0 part.1) ((0, 0) ∷ parts) k (0, 0))
 
--- where the items of a form's body from its pointer on stand in the store
-pub record AreItems (s : Lists) (k place name body from : ℕ) : Type 0 where
-  pub behind : place + 3 + name + body ≤ length s.store
-  pub order : from ≤ body
-  pub are : map item_of (slice_range s.store (place + 3 + name + from) (place + 3 + name + body)) ≡ drop (pointer_at (forms_in s.store) k) (body_at (forms_in s.store) k)
+-- the items of a form's body from its pointer on stand in the store, behind the form's heads and its name
+pub record AreItems (s : Lists) (form : Located) (heads : Heads) : Type 0 where
+  pub behind : form.start + 3 + heads.name + heads.body ≤ length s.store
+  pub order : heads.pointer ≤ heads.body
+  pub are : map item_of (slice_range s.store (form.start + 3 + heads.name + heads.pointer) (form.start + 3 + heads.name + heads.body)) ≡ drop (pointer_at (forms_in s.store) form.number) (body_at (forms_in s.store) form.number)
 
-pub items : (s : Lists) (k place name body from : ℕ) → flat_forms (forms_in s.store) ≡ s.store → IsStore (forms_in s.store) → k < length (forms_in s.store) → place ≡ start_of (forms_in s.store) k → name ≡ length (name_at (forms_in s.store) k) → body ≡ length (body_at (forms_in s.store) k) → from ≡ pointer_at (forms_in s.store) k → AreItems s k place name body from
-items s k place name body from whole is_store within begins name_is body_is from_is =
+pub items : (s : Lists) (form : Located) (heads : Heads) → flat_forms (forms_in s.store) ≡ s.store → IsStore (forms_in s.store) → IsLocated (forms_in s.store) form.number form.start → heads.name ≡ length (name_at (forms_in s.store) form.number) → heads.body ≡ length (body_at (forms_in s.store) form.number) → heads.pointer ≡ pointer_at (forms_in s.store) form.number → AreItems s form heads
+items s form heads whole is_store located name_is body_is pointer_is =
+    let place = form.start in
+    let name = heads.name in
+    let body = heads.body in
+    let from = heads.pointer in
     let forms = forms_in s.store in
-    let form = form_at forms k in
-    let f = stands forms s.store k place whole within begins in
-    let inside = pointer-within forms k is_store in
-    let name_end : place + 3 + name ≡ place + 3 + length form.name = omega (arith, name_is) in
-    let end : place + 3 + name + body ≡ place + 3 + length form.name + length form.body = omega (arith, name_is, body_is) in
-    let pointer : from ≡ form.pointer = from_is in
-    let here : form.pointer ≤ length form.body = omega (arith, inside) in
+    let named = form_at forms form.number in
+    let f = stands forms s.store form.number place whole located.within located.start_is in
+    let inside = pointer-within forms form.number is_store in
+    let name_end : place + 3 + name ≡ place + 3 + length named.name = omega (arith, name_is) in
+    let end : place + 3 + name + body ≡ place + 3 + length named.name + length named.body = omega (arith, name_is, body_is) in
+    let pointer : from ≡ named.pointer = pointer_is in
+    let here : named.pointer ≤ length named.body = omega (arith, inside) in
     record {
       behind = omega (arith, end, f.end);
       order = omega (arith, body_is, pointer, here);
       are = ap (λ i. map item_of (slice_range s.store (i + from) (place + 3 + name + body))) name_end
-          ∙ ap (λ i. map item_of (slice_range s.store (place + 3 + length form.name + from) i)) end
-          ∙ ap (λ i. map item_of (slice_range s.store (place + 3 + length form.name + i) (place + 3 + length form.name + length form.body))) pointer
-          ∙ body-items s.store form.body (place + 3 + length form.name) form.pointer here f.body_part;
+          ∙ ap (λ i. map item_of (slice_range s.store (place + 3 + length named.name + from) i)) end
+          ∙ ap (λ i. map item_of (slice_range s.store (place + 3 + length named.name + i) (place + 3 + length named.name + length named.body))) pointer
+          ∙ body-items s.store named.body (place + 3 + length named.name) named.pointer here f.body_part;
     }

@@ -73,14 +73,14 @@ seen-decides cells text same bytes text_bytes decides = (
 )
 
 -- the character at a place of a text, read from its cell
-pub character-read : (cells : List Cell) (i c : ℕ) → i < length cells → c ≡ character_of (get_or cells i (Byte 0)) → get_or (text_of_cells cells) i 0 ≡ c
-character-read cells i c within is = get_or-map character_of cells i (Byte 0) 0 within ∙ sym is
+pub character-read : (cells : List Cell) (i : ℕ) → i < length cells → get_or (text_of_cells cells) i 0 ≡ character_of (get_or cells i (Byte 0))
+character-read cells i within = get_or-map character_of cells i (Byte 0) 0 within
 
 -- texts that differ at a place are not the same
-pub characters-differ : (a b : List Cell) (i x y : ℕ) → i < length a → i < length b → x ≡ character_of (get_or a i (Byte 0)) → y ≡ character_of (get_or b i (Byte 0)) → x ≢ y → Decides false (text_of_cells a ≡ text_of_cells b)
-characters-differ a b i x y in_a in_b is other differs = (
+pub characters-differ : (a b : List Cell) (i : ℕ) → i < length a → i < length b → character_of (get_or a i (Byte 0)) ≢ character_of (get_or b i (Byte 0)) → Decides false (text_of_cells a ≡ text_of_cells b)
+characters-differ a b i in_a in_b differs = (
   λ t. absurd (false≢true t),
-  λ same. absurd (differs (sym (character-read a i x in_a is) ∙ ap (λ t. get_or t i 0) same ∙ character-read b i y in_b other)),
+  λ same. absurd (differs (sym (character-read a i in_a) ∙ ap (λ t. get_or t i 0) same ∙ character-read b i in_b)),
 )
 
 -- cells that are seen as those of a text

@@ -32,13 +32,15 @@ heads-shown (cell ∷ cells) (n ∷ numbers) shown =
     let rest : map seen cells ≡ map Head numbers = cc in
     ap (λ (c : Cell). c ∷ cells) (seen-head cell n first) ∙ ap (λ l. Head n ∷ l) (heads-shown cells numbers rest)
 
--- what is read of a cell of the slice is what is read of it in the list, where the number of a call mark counts for nothing
-pub read-in-part : (read : Option Cell → ℕ) → ((cell : Cell) → read (Some (seen cell)) ≡ read (Some cell)) → (list cells : List Cell) (at end i : ℕ) → end ≤ length list → map seen cells ≡ slice_range list at end → at + i < end → read (Some (get_or cells i (Byte 0))) ≡ read (slice_get list (at + i))
-read-in-part read same list cells at end i within shown inside =
-    let some : i < length cells = omega (arith, inside, length-map cells seen, ap length shown, length-between list at end within) in
-    sym (same (get_or cells i (Byte 0)))
-    ∙ ap (λ (cell : Cell). read (Some cell)) (sym (get_or-map seen cells i (Byte 0) (Byte 0) some) ∙ ap (λ cs. get_or cs i (Byte 0)) shown ∙ get_or-between list at end i (Byte 0) inside)
-    ∙ ap read (sym (slice_get-get_or list (at + i) (Byte 0) (omega (arith, inside, within))))
+-- a slice shows the cells of a list from `at` up to `end`
+module _ (list cells : List Cell) (at end : ℕ) (within : end ≤ length list) (shown : map seen cells ≡ slice_range list at end) where
+  -- what is read of a cell of the slice is what is read of it in the list, where the number of a call mark counts for nothing
+  pub read-in-part : (read : Option Cell → ℕ) → ((cell : Cell) → read (Some (seen cell)) ≡ read (Some cell)) → (i : ℕ) → at + i < end → read (Some (get_or cells i (Byte 0))) ≡ read (slice_get list (at + i))
+  read-in-part read same i inside =
+      let some : i < length cells = omega (arith, inside, length-map cells seen, ap length shown, length-between list at end within) in
+      sym (same (get_or cells i (Byte 0)))
+      ∙ ap (λ (cell : Cell). read (Some cell)) (sym (get_or-map seen cells i (Byte 0) (Byte 0) some) ∙ ap (λ cs. get_or cs i (Byte 0)) shown ∙ get_or-between list at end i (Byte 0) inside)
+      ∙ ap read (sym (slice_get-get_or list (at + i) (Byte 0) (omega (arith, inside, within))))
 
-pub number-in-part : (list cells : List Cell) (at end i : ℕ) → end ≤ length list → map seen cells ≡ slice_range list at end → at + i < end → head_number (Some (get_or cells i (Byte 0))) ≡ head_at list (at + i)
-number-in-part = read-in-part head_number number-seen
+  pub number-in-part : (i : ℕ) → at + i < end → head_number (Some (get_or cells i (Byte 0))) ≡ head_at list (at + i)
+  number-in-part = read-in-part head_number number-seen

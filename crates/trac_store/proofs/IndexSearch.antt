@@ -1,7 +1,7 @@
 -- A search by the table.
 use Rattle.trac_store.proofs.Imports.{◌≡◌, ◌≢◌, ℕ, zero, suc, ◌+◌, ◌-◌, ◌*◌, ◌/◌, ◌<◌, ◌≤◌, true, false, List, [], ◌∷◌, length, map, set, take, get_or, Bool, inl, inr, if◌then◌else◌, nat_le, refl, subst, sym, ap, ◌∙◌, arith, ⊎_elim, bit_and, and_le_r, false≢true, cases_lt, length-map}
 use Rattle.trac_store.proofs.Imports.{length-append, length-set, get_or-map, Text, Form, NoneNamed, Cell, Byte, Head, seen, Lists, used, reserved, flat_form, flat_forms, name_at, form_at, start_of, IsIndexed, IsKept, hash, quarter, slots, slot, start_place, cell_at, is_blank, IsIndex}
-use Rattle.trac_store.proofs.TableChanges.{index-renamed}
+use Rattle.trac_store.proofs.TableChanges.{index-renamed, numbered}
 
 pub NoneNamed-from : (name : Text) (forms : List Form) → ((k : ℕ) → k < length forms → name_at forms k ≢ name) → NoneNamed name forms
 NoneNamed-from name [] h = tt
@@ -88,7 +88,7 @@ same_start new (form ∷ forms) (suc k) (suc j) long =
 pub index-replaced : (forms : List Form) (k : ℕ) (new : Form) (table : List Cell) → new.name ≡ (form_at forms k).name → length (flat_form new) ≡ length (flat_form (form_at forms k)) → IsIndexed table forms → IsIndexed table (set forms k new)
 index-replaced forms k new table named long h = λ some.
     let now = set forms k new in
-    index-renamed table (length forms) (length now) (name_at forms) (name_at now) (start_of forms) (start_of now) (length-set forms k new) (λ j _. (name-set new forms k j named, same_start new forms k j long)) (h some)
+    index-renamed table (numbered forms) (numbered now) (length-set forms k new) (λ j _. (name-set new forms k j named, same_start new forms k j long)) (h some)
 
 -- form k with another pointer
 pub index-pointer : (forms : List Form) (k p : ℕ) (table : List Cell) → IsIndexed table forms → IsIndexed table (set forms k (record (form_at forms k) { pointer = p }))

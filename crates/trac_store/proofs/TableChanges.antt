@@ -1,6 +1,6 @@
 -- Changes of a table of forms.
 use Rattle.trac_store.proofs.Imports.{◌≡◌, ◌≢◌, ℕ, ◌+◌, ◌-◌, ◌*◌, ◌/◌, ◌<◌, ◌≤◌, false, List, length, set, sym, ap, ◌∙◌, arith, ⊎_elim, subst, bit_and, and_le_r, cases_eq, length-set, get_or-set_same, get_or-set_other, Text, Cell, Byte, Comma, Head, hash, quarter, slots, slot}
-use Rattle.trac_store.proofs.Imports.{cell_at, start_place, home_place, is_blank, IsReached, IsEntry, HasEntry, IsIndexBut, with_entry, begins, reads}
+use Rattle.trac_store.proofs.Imports.{Form, name_at, start_of, cell_at, start_place, home_place, is_blank, IsReached, IsEntry, HasEntry, IsIndexBut, with_entry, begins, reads}
 
 -- a slot that is looked at is one of the slots
 pub slot-within : (table : List Cell) (number i : ℕ) → 0 < slots table → slot table number i < slots table
@@ -21,10 +21,6 @@ record IsEntryThen (table now : List Cell) (name : Text) (start k s after : ℕ)
 
 abbrev HasEntryThen : List Cell → List Cell → Text → ℕ → ℕ → Type 0
 HasEntryThen table now name start k = (s : ℕ) × ((after : ℕ) × IsEntryThen table now name start k s after)
-
-then-entry : (table now : List Cell) (name : Text) (start k s after : ℕ) → IsReached table (hash name) s after → cell_at now s ≡ Head k → cell_at now (start_place table k) ≡ Head start → cell_at now (home_place table k) ≡ Head s → HasEntryThen table now name start k
-then-entry table now name start k s after reached held begins home =
-    (s, (after, record { reached = reached; held = held; begins = begins; home = home }))
 
 -- a table of as many cells whose slots are blank in no further place
 module _ (table now : List Cell) (long : length now ≡ length table) (full : (x : ℕ) → x < slots table → is_blank (cell_at table x) ≡ false → is_blank (cell_at now x) ≡ false) where
@@ -107,18 +103,24 @@ module _ (table : List Cell) (n g s n2 g2 : ℕ) (name name2 : ℕ → Text) (st
   new_all : (k : ℕ) → k < n2 → k ≢ g2 → HasEntryThen table now (name2 k) (start2 k) k
   new_all k within there =
       ⊎_elim
-      (λ e. subst (λ j. HasEntryThen table now (name2 j) (start2 j) j) (sym e) (then-entry table now (name2 g) (start2 g) g s after reached (entry-slot table s g (start2 g) s_in g_fits) (entry-start table s g (start2 g) s_in g_fits) (entry-home table s g (start2 g) s_in g_fits)))
+      (λ e. subst (λ j. HasEntryThen table now (name2 j) (start2 j) j) (sym e) (s, (after, record { reached = reached; held = entry-slot table s g (start2 g) s_in g_fits; begins = entry-start table s g (start2 g) s_in g_fits; home = entry-home table s g (start2 g) s_in g_fits })))
       (λ differs.
       let o = olds k within there differs in
       let old = index.all k o.0 differs in
       let e = old.1.1 in
       let k_fits : k < quarter table = omega (arith, within, fits) in
-      let apart2 : old.0 ≢ s = λ same. free k within there differs (ap (cell_at table) (sym same) ∙ e.held) in
-      then-entry table now (name2 k) (start2 k) k old.0 old.1.0
-      (subst (λ t. IsReached table (hash t) old.0 old.1.0) (sym o.1) e.reached)
-      (entry-other_slot table s g (start2 g) s_in g_fits old.0 (reached-within table (hash (name k)) old.0 old.1.0 e.reached) apart2 ∙ e.held)
-      (entry-other_start table s g (start2 g) s_in g_fits k k_fits differs ∙ e.begins ∙ ap (λ b. Head b) (sym o.2))
-      (entry-other_home table s g (start2 g) s_in g_fits k k_fits differs ∙ e.home))
+      let apart2 : old.0 ≢ s = λ same. free k within there differs (ap (cell_at table) (sym same) ∙ e.held) in (
+        old.0,
+        (
+          old.1.0,
+          record {
+            reached = subst (λ t. IsReached table (hash t) old.0 old.1.0) (sym o.1) e.reached;
+            held = entry-other_slot table s g (start2 g) s_in g_fits old.0 (reached-within table (hash (name k)) old.0 old.1.0 e.reached) apart2 ∙ e.held;
+            begins = entry-other_start table s g (start2 g) s_in g_fits k k_fits differs ∙ e.begins ∙ ap (λ b. Head b) (sym o.2);
+            home = entry-other_home table s g (start2 g) s_in g_fits k k_fits differs ∙ e.home;
+          },
+        ),
+      ))
       (cases_eq k g)
 
   new_only : (x k : ℕ) → x < slots table → cell_at now x ≡ Head k → (k < n2) × (k ≢ g2) × (cell_at now (home_place table k) ≡ Head x)
@@ -161,10 +163,18 @@ module _ (table : List Cell) (n k s after : ℕ) (name : ℕ → Text) (start : 
       (λ j less differs.
       let old = index.all j less (λ e. absurd (omega (arith, e, less))) in
       let e = old.1.1 in
-      let apart : old.0 ≢ s = λ same. differs (head-same j k (sym e.held ∙ ap (cell_at table) same ∙ entry.held)) in
-      then-entry table _ (name j) (start j) j old.0 old.1.0 e.reached (bury_other old.0 apart ∙ e.held)
-      (bury_other (start_place table j) (λ f. absurd (omega (arith, f, slot_in))) ∙ e.begins)
-      (bury_other (home_place table j) (λ f. absurd (omega (arith, f, slot_in))) ∙ e.home))
+      let apart : old.0 ≢ s = λ same. differs (head-same j k (sym e.held ∙ ap (cell_at table) same ∙ entry.held)) in (
+        old.0,
+        (
+          old.1.0,
+          record {
+            reached = e.reached;
+            held = bury_other old.0 apart ∙ e.held;
+            begins = bury_other (start_place table j) (λ f. absurd (omega (arith, f, slot_in))) ∙ e.begins;
+            home = bury_other (home_place table j) (λ f. absurd (omega (arith, f, slot_in))) ∙ e.home;
+          },
+        ),
+      ))
       (λ x j x_in is. ⊎_elim
       (λ e. absurd (comma-head j (sym bury_same ∙ ap (cell_at (set table s Comma)) (sym e) ∙ is)))
       (λ differs.
@@ -202,20 +212,39 @@ module _ (table : List Cell) (n k begin : ℕ) (name : ℕ → Text) (start star
       (λ j less there.
       let old = index.all j less there in
       let e = old.1.1 in
-      let s_in = reached-within table (hash (name j)) old.0 old.1.0 e.reached in
-      then-entry table _ (name j) (start2 j) j old.0 old.1.0 e.reached (begin_other old.0 (λ f. absurd (omega (arith, f, s_in))) ∙ e.held) (begin_begins j less e.begins) (begin_home j ∙ e.home))
+      let s_in = reached-within table (hash (name j)) old.0 old.1.0 e.reached in (
+        old.0,
+        (
+          old.1.0,
+          record {
+            reached = e.reached;
+            held = begin_other old.0 (λ f. absurd (omega (arith, f, s_in))) ∙ e.held;
+            begins = begin_begins j less e.begins;
+            home = begin_home j ∙ e.home;
+          },
+        ),
+      ))
       (λ x j x_in is.
       let old = index.only x j x_in (sym (begin_other x (λ e. absurd (omega (arith, e, x_in)))) ∙ is) in
       (old.within, old.there, begin_home j ∙ old.home))
 
--- the same forms, under other words
-pub index-as : (table : List Cell) (n g n2 g2 : ℕ) (name name2 : ℕ → Text) (start start2 : ℕ → ℕ) → n2 ≤ quarter table → ((k : ℕ) → k < n2 → k ≢ g2 → (k < n) × (k ≢ g) × (name2 k ≡ name k) × (start2 k ≡ start k)) → ((k : ℕ) → k < n → k ≢ g → (k < n2) × (k ≢ g2)) → IsIndexBut table n g name start → IsIndexBut table n2 g2 name2 start2
-index-as table n g n2 g2 name name2 start start2 fits olds news index = record {
+-- numbered forms: how many they are, the name of each, and where each begins
+pub record Numbered : Type 0 where
+  pub count : ℕ
+  pub name : ℕ → Text
+  pub start : ℕ → ℕ
+
+abbrev pub numbered : List Form → Numbered
+numbered forms = record { count = length forms; name = name_at forms; start = start_of forms }
+
+-- the same forms, under other words; form g was left out, and form g2 is
+pub index-as : (table : List Cell) (was now : Numbered) (g g2 : ℕ) → now.count ≤ quarter table → ((k : ℕ) → k < now.count → k ≢ g2 → (k < was.count) × (k ≢ g) × (now.name k ≡ was.name k) × (now.start k ≡ was.start k)) → ((k : ℕ) → k < was.count → k ≢ g → (k < now.count) × (k ≢ g2)) → IsIndexBut table was.count g was.name was.start → IsIndexBut table now.count g2 now.name now.start
+index-as table was now g g2 fits olds news index = record {
   overflow = fits;
   all = λ k within there.
       let o = olds k within there in
       let old = index.all k o.0 o.1 in
-      subst (λ b. HasEntry table (name2 k) b k) (sym o.3) (subst (λ t. HasEntry table t (start k) k) (sym o.2) old);
+      subst (λ b. HasEntry table (now.name k) b k) (sym o.3) (subst (λ t. HasEntry table t (was.start k) k) (sym o.2) old);
   only = λ s k s_in is.
       let old = index.only s k s_in is in
       let more = news k old.within old.there in
@@ -223,8 +252,8 @@ index-as table n g n2 g2 name name2 start start2 fits olds news index = record {
 }
 
 -- where no form is left out
-pub index-renamed : (table : List Cell) (n n2 : ℕ) (name name2 : ℕ → Text) (start start2 : ℕ → ℕ) → n2 ≡ n → ((k : ℕ) → k < n2 → (name2 k ≡ name k) × (start2 k ≡ start k)) → IsIndexBut table n n name start → IsIndexBut table n2 n2 name2 start2
-index-renamed table n n2 name name2 start start2 size same index =
-    index-as table n n n2 n2 name name2 start start2 (omega (arith, size, index.overflow))
+pub index-renamed : (table : List Cell) (was now : Numbered) → now.count ≡ was.count → ((k : ℕ) → k < now.count → (now.name k ≡ was.name k) × (now.start k ≡ was.start k)) → IsIndexBut table was.count was.count was.name was.start → IsIndexBut table now.count now.count now.name now.start
+index-renamed table was now size same index =
+    index-as table was now was.count now.count (omega (arith, size, index.overflow))
     (λ k within there. (omega (arith, size, within), λ e. absurd (omega (arith, e, size, within)), (same k within).0, (same k within).1))
     (λ k within there. (omega (arith, size, within), λ e. absurd (omega (arith, e, size, within)))) index

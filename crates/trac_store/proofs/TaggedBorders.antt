@@ -22,27 +22,29 @@ pub tagged-text-set : (cells : List Cell) (k : ℕ) (cell : Cell) → untagged c
 tagged-text-set cells k cell same =
     map-set_same (λ c. character_of (untagged c)) cells k cell (Byte 0) (ap character_of same)
 
-pub tagged-next : (was now : List Cell) (count border next : ℕ) (cell : Cell) → BordersTagged was now count border → count < length now → untagged cell ≡ untagged (get_or now count (Byte 0)) → tag_of cell ≡ next → get_or now count (Byte 0) ≡ Byte (byte_at (tagged_text now) count) → IsNextBorder (tagged_text now) border (get_or now count (Byte 0)) next → BordersTagged was (set now count cell) (count + 1) next
-tagged-next was now count border next cell h less same over_is byte is =
-    let text : tagged_text (set now count cell) ≡ tagged_text now = tagged-text-set now count cell same in
-    let long : IsLongestBorder (tagged_text now) (count + 1) next = longest-more (tagged_text now) count border next (get_or now count (Byte 0)) byte h.longest is in
-    record {
-      untagged_is = map-set_same untagged now count cell (Byte 0) same ∙ h.untagged_is;
-      behind = drop-set-lt (count + 1) now count cell (omega arith) ∙ drop-more was now count h.behind;
-      some = omega arith;
-      within = omega (arith, less, length-set now count cell);
-      borders = λ n some within.
-          ⊎_elim
-          (λ last.
-          let e : n - 1 ≡ count = omega (arith, last) in
-          let read : tag_of (get_or (set now count cell) (n - 1) (Byte 0)) ≡ next = ap (λ k. tag_of (get_or (set now count cell) k (Byte 0))) e ∙ ap tag_of (get_or-set_same now count cell (Byte 0) less) ∙ over_is in
-          subst (λ b. IsLongestBorder (tagged_text (set now count cell)) n b) (sym read) (subst (λ t. IsLongestBorder t n next) (sym text) (subst (λ m. IsLongestBorder (tagged_text now) m next) (sym last) long)))
-          (λ other.
-          let e : get_or (set now count cell) (n - 1) (Byte 0) ≡ get_or now (n - 1) (Byte 0) = get_or-set_other now count (n - 1) cell (Byte 0) (λ at. other (omega (arith, at, some))) in
-          subst (λ c. IsLongestBorder (tagged_text (set now count cell)) n (tag_of c)) (sym e) (subst (λ t. IsLongestBorder t n (tag_of (get_or now (n - 1) (Byte 0)))) (sym text) (h.borders n some (omega (arith, within, other)))))
-          (cases_eq n (count + 1));
-      longest = subst (λ t. IsLongestBorder t (count + 1) next) (sym text) long;
-    }
+-- one border more
+module _ (was now : List Cell) (count border : ℕ) (h : BordersTagged was now count border) (less : count < length now) where
+  pub tagged-next : (next : ℕ) (cell : Cell) → untagged cell ≡ untagged (get_or now count (Byte 0)) → tag_of cell ≡ next → get_or now count (Byte 0) ≡ Byte (byte_at (tagged_text now) count) → IsNextBorder (tagged_text now) border (get_or now count (Byte 0)) next → BordersTagged was (set now count cell) (count + 1) next
+  tagged-next next cell same over_is byte is =
+      let text : tagged_text (set now count cell) ≡ tagged_text now = tagged-text-set now count cell same in
+      let long : IsLongestBorder (tagged_text now) (count + 1) next = longest-more (tagged_text now) count border next (get_or now count (Byte 0)) byte h.longest is in
+      record {
+        untagged_is = map-set_same untagged now count cell (Byte 0) same ∙ h.untagged_is;
+        behind = drop-set-lt (count + 1) now count cell (omega arith) ∙ drop-more was now count h.behind;
+        some = omega arith;
+        within = omega (arith, less, length-set now count cell);
+        borders = λ n some within.
+            ⊎_elim
+            (λ last.
+            let e : n - 1 ≡ count = omega (arith, last) in
+            let read : tag_of (get_or (set now count cell) (n - 1) (Byte 0)) ≡ next = ap (λ k. tag_of (get_or (set now count cell) k (Byte 0))) e ∙ ap tag_of (get_or-set_same now count cell (Byte 0) less) ∙ over_is in
+            subst (λ b. IsLongestBorder (tagged_text (set now count cell)) n b) (sym read) (subst (λ t. IsLongestBorder t n next) (sym text) (subst (λ m. IsLongestBorder (tagged_text now) m next) (sym last) long)))
+            (λ other.
+            let e : get_or (set now count cell) (n - 1) (Byte 0) ≡ get_or now (n - 1) (Byte 0) = get_or-set_other now count (n - 1) cell (Byte 0) (λ at. other (omega (arith, at, some))) in
+            subst (λ c. IsLongestBorder (tagged_text (set now count cell)) n (tag_of c)) (sym e) (subst (λ t. IsLongestBorder t n (tag_of (get_or now (n - 1) (Byte 0)))) (sym text) (h.borders n some (omega (arith, within, other)))))
+            (cases_eq n (count + 1));
+        longest = subst (λ t. IsLongestBorder t (count + 1) next) (sym text) long;
+      }
 
 pub cell-kept : (was now : List Cell) (count : ℕ) → drop count now ≡ drop count was → get_or now count (Byte 0) ≡ get_or was count (Byte 0)
 cell-kept was now count same =
@@ -155,7 +157,7 @@ module _ (old now : Lists) (a b count border : ℕ) (part : IsTextPart old.neutr
         front = ap (take a) neutral ∙ take-set-le a now.neutral (a + count) cell (omega arith) ∙ h.front;
         behind = ap (drop b) neutral ∙ drop-set-lt b now.neutral (a + count) cell (omega (arith, less)) ∙ h.behind;
         long = ap length neutral ∙ length-set now.neutral (a + count) cell ∙ h.long;
-        tagged = subst (λ l. BordersTagged (slice_range old.neutral a b) l (count + 1) next) (sym slice) (tagged-next (slice_range old.neutral a b) (slice_range now.neutral a b) count border next cell h.tagged (omega (arith, less, now_len)) (untagged_is ∙ ap untagged cell-is) over_is here-is is_here);
+        tagged = subst (λ l. BordersTagged (slice_range old.neutral a b) l (count + 1) next) (sym slice) (tagged-next (slice_range old.neutral a b) (slice_range now.neutral a b) count border h.tagged (omega (arith, less, now_len)) next cell (untagged_is ∙ ap untagged cell-is) over_is here-is is_here);
       }
 
 -- the borders of all beginnings are laid

@@ -148,13 +148,14 @@ module _ (text : List ℕ) (cells : List Cell) (from i matched next : ℕ) (few 
         before = λ a above below. none-next a above (omega (arith, below, order));
       }
 
--- at the end it stands nowhere
-pub searched-all : (text : List ℕ) (cells : List Cell) (from i matched : ℕ) → length cells ≤ i → matched < length text → Searched text cells from i matched → NonePasses (text_cells_at text cells) from (length cells)
-searched-all text cells from i matched end few done a above below =
-    ⊎_elim
-    (λ before. done.none a above before)
-    (λ within. begins-few text (drop a cells) (omega (arith, length-drop a cells, within, end, few, below)))
-    (cases_lt (a + matched) i)
+module _ (text : List ℕ) (cells : List Cell) (from i matched : ℕ) (done : Searched text cells from i matched) where
+  -- at the end it stands nowhere
+  pub searched-all : length cells ≤ i → matched < length text → NonePasses (text_cells_at text cells) from (length cells)
+  searched-all end few a above below =
+      ⊎_elim
+      (λ before. done.none a above before)
+      (λ within. begins-few text (drop a cells) (omega (arith, length-drop a cells, within, end, few, below)))
+      (cases_lt (a + matched) i)
 
 -- the longest border of one character more
 module _ (text : List ℕ) (n border next : ℕ) (cell : Cell) (cell_is : cell ≡ Byte (byte_at text n)) (long : IsLongestBorder text n border) (is : IsNextBorder text border cell next) where

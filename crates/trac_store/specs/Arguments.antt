@@ -1,5 +1,5 @@
 -- The arguments of a call in neutral: what stands between comma marks.
-use Rattle.std.specs.Prelude.{slice_get, Some, ◌≡◌, ℕ, suc, ◌+◌, ◌≤◌, List, []}
+use Rattle.std.specs.Prelude.{slice_get, Some, Option, MatchOption, ◌≡◌, ℕ, suc, ◌+◌, ◌<◌, ◌≤◌, ◌++◌, List, [], All}
 use Rattle.std.specs.Prelude.{◌∷◌, length, map, slice_range, nat_le}
 use Rattle.std.specs.Prelude.{if◌then◌else◌}
 use Rattle.trac_language.specs.Text.{Text}
@@ -8,7 +8,8 @@ use Rattle.trac_space.specs.declared.cell.Cell.{Cell}
 use Rattle.trac_space.specs.declared.cell.Cell.TheVariants.{Head}
 use Rattle.trac_space.specs.Cells.{is_comma}
 use Rattle.trac_space.specs.Filled.{parts_at}
-use Rattle.trac_space.specs.Lists.{Lists}
+use Rattle.trac_space.specs.Lists.{Lists, used, reserved}
+use Rattle.trac_space.specs.Texts.{flat_text, IsByte}
 use Rattle.trac_store.specs.Parts.{AreTextParts, part_texts}
 use Rattle.trac_store.specs.Stored.{head_at, item_of}
 
@@ -32,6 +33,23 @@ pub record AreParted (neutral : List Cell) (from end : ℕ) : Type 0 where
   pub within : end ≤ length neutral
   pub bounded : end ≤ 16777216
   pub texts : AreTextParts neutral (parts_between neutral from end)
+
+-- the text was put before the active string, and `result` is how many characters it has; or it didn't fit, and
+-- only the index area may have changed
+abbrev pub LoadsText : Lists → Lists → Text → Option ℕ → Type 0
+LoadsText old new text result =
+    MatchOption result
+    ((new ≡ record old { index_area = new.index_area }) × (old.room < used old + length text))
+    (λ n. (length text ≡ n) × (used old + n ≤ old.room)
+    × (new ≡ record old { active = flat_text text ++ old.active; index_area = new.index_area }))
+
+-- the cells of the store from `from` up to `to` are characters, and were put before the active string, and
+-- `result` is how many they are; or nothing has changed
+abbrev pub LoadsCharacters : Lists → Lists → ℕ → ℕ → Option ℕ → Type 0
+LoadsCharacters old new from to result =
+    MatchOption result (new ≡ old)
+    (λ n. All IsByte (slice_range old.store from to) × (from + n ≡ to) × (used old + n ≤ old.room)
+    × (new ≡ record (reserved n old) { active = slice_range old.store from to ++ old.active }))
 
 -- a head cell stands at place i
 abbrev pub IsHeadAt : List Cell → ℕ → Type 0

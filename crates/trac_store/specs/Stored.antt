@@ -1,6 +1,6 @@
 -- How forms stand as the cells of a store.
 use Rattle.std.specs.Prelude.{◌≡◌, ℕ, suc, ◌+◌, List, [], ◌∷◌, length, ◌≤◌, ◌<◌, map, take, drop, All}
-use Rattle.std.specs.Prelude.{Option, Some, None, MatchOption, slice_get}
+use Rattle.std.specs.Prelude.{Option, Some, None, MatchOption, slice_get, slice_range}
 use Rattle.trac_language.specs.declared.item.Item.{Item}
 use Rattle.trac_language.specs.declared.item.Item.TheVariants as item
 use Rattle.trac_language.specs.Form.{Form}
@@ -95,6 +95,14 @@ stored_item cells i = item_of_cell (slice_get cells i)
 pub record IsFoundAt (forms : List Form) (name : Text) (k start : ℕ) : Type 0 where
   pub named : IsNamedAt forms name k
   pub start_is : start ≡ start_of forms k
+
+-- the answer to a search for a name among the forms from number `from` up to number `end`: a form that has it,
+-- or none if none of these has it
+abbrev pub IsAnswerBetween : List Form → ℕ → ℕ → Text → Option Located → Type 0
+IsAnswerBetween forms from end name answer =
+    MatchOption answer
+    (NoneNamed name (slice_range forms from end))
+    (λ found. IsFoundAt forms name found.number found.start)
 
 -- the answer to a search for a name: a form that has it, or none if no form has it
 abbrev pub IsAnswer : List Form → Text → Option Located → Type 0

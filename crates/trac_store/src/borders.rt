@@ -1,11 +1,11 @@
 //! Searches for a text in one pass, by the method of Knuth, Morris and Pratt. A border of a beginning of
 //! the text is a shorter beginning that also ends it; where the text doesn't go on, the search goes on
 //! from the border. The lengths of the borders are tags of the text's cells while the search runs.
-ghost use Rattle.std.specs.Prelude.{◌≡◌, ◌≤◌, ◌<◌, ◌-◌, length, MatchOption};
+ghost use Rattle.std.specs.Prelude.{◌≡◌, ◌≤◌, ◌<◌, ◌-◌, length};
 ghost use Rattle.trac_store.specs.Borders.{tagged_text, HaveBorders, AreTagged, IsNextBorder};
 ghost use Rattle.trac_store.specs.Gaps.{text_cells_at};
 ghost use Rattle.trac_store.specs.Parts.{IsTextPart};
-ghost use Rattle.trac_store.specs.Search.{NonePasses, IsFirst};
+ghost use Rattle.trac_store.specs.Search.{FindsFirst};
 
 use crate::gap_making::is_same_byte;
 use trac_space::{Cell, Part, Space, tag_or_zero, tagged, untagged_cell};
@@ -38,9 +38,7 @@ pub(crate) fn first_place(cells: &[Cell], from: u32, text: &[Cell]) -> Option<u3
     requires text_bounded { length text.now ≤ 16777216 }
     requires borders { HaveBorders text.now (length text.now) }
     ensures { let bytes = tagged_text text.now in
-        MatchOption result
-        (NonePasses (text_cells_at bytes cells.now) from (length cells.now))
-        (λ place. IsFirst (text_cells_at bytes cells.now) from (length cells.now) place) }
+        FindsFirst (text_cells_at bytes cells.now) from (length cells.now) result }
 {
     let mut before = 0;
     for i in from..cells.len() as u32 {

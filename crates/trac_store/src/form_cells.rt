@@ -1,13 +1,12 @@
 //! Searches the cells of forms for the form of a name.
 ghost use Rattle.std.specs.Prelude.{◌≡◌, ◌+◌, ◌-◌, ◌≤◌, ◌<◌, [], length, map, slice_range};
-ghost use Rattle.std.specs.Prelude.{slice_index_or, All, MatchOption, Decides, IsTrue};
-ghost use Rattle.trac_language.specs.Store.{NoneNamed};
+ghost use Rattle.std.specs.Prelude.{slice_index_or, All, Decides, IsTrue};
 ghost use Rattle.trac_space.specs.declared.cell.Cell.TheVariants.{Byte};
 ghost use Rattle.trac_space.specs.Cells.{seen};
 ghost use Rattle.trac_space.specs.Texts.{character_of, flat_text, text_of_cells, IsByte};
 ghost use Rattle.trac_store.specs.Forms.{name_at};
-ghost use Rattle.trac_store.specs.Stored.{forms_in, IsPlace, IsLocated, IsFoundAt, IsAnswer, IsName, AreCellsOfForms};
-ghost use Rattle.trac_store.specs.Stored.{AreTextsOfOneLength};
+ghost use Rattle.trac_store.specs.Stored.{forms_in, IsPlace, IsLocated, IsFoundAt, IsName, AreCellsOfForms};
+ghost use Rattle.trac_store.specs.Stored.{AreTextsOfOneLength, IsAnswer, IsAnswerBetween};
 
 use crate::form_heads::number_in_head;
 use crate::located::{FIRST_FORM, Located};
@@ -135,9 +134,7 @@ impl<'s> FormCells<'s> {
         requires within { end ≤ length self.now }
         requires name { IsName name.now }
         ensures { let text = text_of_cells (map seen name.now) in
-            MatchOption result
-            (NoneNamed text (slice_range self.now from.number end))
-            (λ found. IsFoundAt self.now text found.number found.start) }
+            IsAnswerBetween self.now from.number end text result }
     {
         let cells = self.cells;
         let last = byte_in(&name[name.len() - 1]);
@@ -175,9 +172,7 @@ pub fn find_between_by_call(
     requires name { IsName name.now }
     ensures { let forms = forms_in (map seen cells.now) in
         let text = text_of_cells (map seen name.now) in
-        MatchOption result
-        (NoneNamed text (slice_range forms from.number end))
-        (λ found. IsFoundAt forms text found.number found.start) }
+        IsAnswerBetween forms from.number end text result }
 {
     FormCells { cells, count }.find_between(from, end, name)
 }

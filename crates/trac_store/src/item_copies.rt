@@ -1,13 +1,12 @@
 //! Copies bodies of forms to the front of active, with their gaps filled.
 ghost use Rattle.std.specs.Prelude.{◌≡◌, ◌+◌, ◌≤◌, ◌<◌, ◌↔◌, ◌++◌};
-ghost use Rattle.std.specs.Prelude.{length, map, slice_range, All, IsTrue, MatchOption};
+ghost use Rattle.std.specs.Prelude.{length, map, slice_range, IsTrue, MatchOption};
 ghost use Rattle.std.specs.Bool.{OnTrue, OnFalse};
 ghost use Rattle.trac_space.specs.Cells.{NoCall, NoComma};
 ghost use Rattle.trac_space.specs.Filled.{HaveCommas, filled};
-ghost use Rattle.trac_space.specs.Lists.{used as cells_used, reserved};
+ghost use Rattle.trac_space.specs.Lists.{used as cells_used};
 ghost use Rattle.trac_space.specs.Tags.{untagged};
-ghost use Rattle.trac_space.specs.Texts.{flat_text, IsByte};
-ghost use Rattle.trac_store.specs.Arguments.{AreParted, filled_cells};
+ghost use Rattle.trac_store.specs.Arguments.{AreParted, filled_cells, LoadsText, LoadsCharacters};
 ghost use Rattle.trac_store.specs.Index.{IsKept};
 
 use trac_space::{Part, Space};
@@ -23,14 +22,7 @@ pub fn fill_items(space: &mut Space, items: Part, texts: Part, no_comma_from: u3
     requires arguments { AreParted space.old.neutral texts.from texts.to }
     requires no_comma_from { NoComma (slice_range space.old.neutral no_comma_from texts.to) }
     ensures filled { let text = filled_cells space.old items.from items.to texts.from texts.to in
-        MatchOption result
-        ((space.new ≡ record space.old { index_area = space.new.index_area })
-        × (space.old.room < cells_used space.old + length text))
-        (λ n. (length text ≡ n) × (cells_used space.old + n ≤ space.old.room)
-        × (space.new ≡ record space.old {
-          active = flat_text text ++ space.old.active;
-          index_area = space.new.index_area;
-        })) }
+        LoadsText space.old space.new text result }
     ensures kept { IsKept space.old.index_area space.new.index_area }
 {
     // A form that is called without arguments mostly has no gaps.
@@ -49,10 +41,7 @@ pub fn fill_items(space: &mut Space, items: Part, texts: Part, no_comma_from: u3
 fn load_items(space: &mut Space, items: Part) -> Option<u32>
     requires order { items.from ≤ items.to }
     requires within { items.to ≤ length space.old.store }
-    ensures { let cells = slice_range space.old.store items.from items.to in
-        MatchOption result (space.new ≡ space.old)
-        (λ n. All IsByte cells × (items.from + n ≡ items.to) × (cells_used space.old + n ≤ space.old.room)
-        × (space.new ≡ record (reserved n space.old) { active = cells ++ space.old.active })) }
+    ensures { LoadsCharacters space.old space.new items.from items.to result }
 {
     // The lists fit in the block.
     prove!(space.free_beside_index() <= space.room());
@@ -75,10 +64,7 @@ fn load_items(space: &mut Space, items: Part) -> Option<u32>
 fn load_items_over_index(space: &mut Space, items: Part) -> Option<u32>
     requires order { items.from ≤ items.to }
     requires within { items.to ≤ length space.old.store }
-    ensures { let cells = slice_range space.old.store items.from items.to in
-        MatchOption result (space.new ≡ space.old)
-        (λ n. All IsByte cells × (items.from + n ≡ items.to) × (cells_used space.old + n ≤ space.old.room)
-        × (space.new ≡ record (reserved n space.old) { active = cells ++ space.old.active })) }
+    ensures { LoadsCharacters space.old space.new items.from items.to result }
 {
     let size = items.to - items.from;
     if space.characters_from(items.from, items.to) < size || space.free() < size {
@@ -98,14 +84,7 @@ fn fill_gaps(space: &mut Space, items: Part, texts: Part, no_comma_from: u32) ->
     requires arguments { AreParted space.old.neutral texts.from texts.to }
     requires no_comma_from { NoComma (slice_range space.old.neutral no_comma_from texts.to) }
     ensures filled { let text = filled_cells space.old items.from items.to texts.from texts.to in
-        MatchOption result
-        ((space.new ≡ record space.old { index_area = space.new.index_area })
-        × (space.old.room < cells_used space.old + length text))
-        (λ n. (length text ≡ n) × (cells_used space.old + n ≤ space.old.room)
-        × (space.new ≡ record space.old {
-          active = flat_text text ++ space.old.active;
-          index_area = space.new.index_area;
-        })) }
+        LoadsText space.old space.new text result }
     ensures kept { IsKept space.old.index_area space.new.index_area }
 {
     let first = texts.from.min(texts.to);

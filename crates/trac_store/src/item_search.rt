@@ -1,10 +1,9 @@
 //! Finds gaps, characters and texts among the cells of a body.
-ghost use Rattle.std.specs.Prelude.{◌≡◌, ◌-◌, ◌≤◌, ◌<◌, length, MatchOption};
+ghost use Rattle.std.specs.Prelude.{◌≡◌, ◌-◌, ◌≤◌, ◌<◌, length};
 ghost use Rattle.std.specs.Prelude.{slice_range};
 ghost use Rattle.trac_space.specs.Texts.{byte_cell_at};
 ghost use Rattle.trac_store.specs.Parts.{IsPart, IsTextPart, part_text};
-ghost use Rattle.trac_store.specs.Search.{NonePasses, IsFirst};
-ghost use Rattle.trac_store.specs.Search.{IsLast};
+ghost use Rattle.trac_store.specs.Search.{FindsFirst, FindsLast};
 ghost use Rattle.trac_store.specs.Gaps.{is_gap_cell, gap_cell_at, text_cells_at};
 
 use crate::borders::{first_place, tag_borders};
@@ -23,9 +22,7 @@ fn is_gap(cell: &Cell) -> bool
 pub fn first_gap(cells: &[Cell], from: u32) -> Option<u32>
     requires within { from ≤ length cells.now }
     requires bounded { length cells.now ≤ 16777216 }
-    ensures { MatchOption result
-        (NonePasses (gap_cell_at cells.now) from (length cells.now))
-        (λ place. IsFirst (gap_cell_at cells.now) from (length cells.now) place) }
+    ensures { FindsFirst (gap_cell_at cells.now) from (length cells.now) result }
 {
     for i in from..cells.len() as u32 {
         if is_gap(&cells[i as usize]) {
@@ -39,9 +36,7 @@ pub fn first_gap(cells: &[Cell], from: u32) -> Option<u32>
 pub fn first_character(cells: &[Cell], from: u32) -> Option<u32>
     requires within { from ≤ length cells.now }
     requires bounded { length cells.now ≤ 16777216 }
-    ensures { MatchOption result
-        (NonePasses (byte_cell_at cells.now) from (length cells.now))
-        (λ place. IsFirst (byte_cell_at cells.now) from (length cells.now) place) }
+    ensures { FindsFirst (byte_cell_at cells.now) from (length cells.now) result }
 {
     for i in from..cells.len() as u32 {
         if is_character(&cells[i as usize]) {
@@ -54,9 +49,7 @@ pub fn first_character(cells: &[Cell], from: u32) -> Option<u32>
 /// The place of the last character before `from`. None if there is none.
 pub fn last_character(cells: &[Cell], from: u32) -> Option<u32>
     requires within { from ≤ length cells.now }
-    ensures { MatchOption result
-        (NonePasses (byte_cell_at cells.now) 0 from)
-        (λ place. IsLast (byte_cell_at cells.now) from place) }
+    ensures { FindsLast (byte_cell_at cells.now) from result }
 {
     let mut end = from;
     while end > 0 {
@@ -80,9 +73,7 @@ pub fn find_text(space: &mut Space, body: Part, from: u32, part: Part) -> Option
     requires some { part.from < part.to }
     ensures found { let text = part_text space.old.neutral part.from part.to in
         let cells = slice_range space.old.store body.from body.to in
-        MatchOption result
-        (NonePasses (text_cells_at text cells) from (length cells))
-        (λ place. IsFirst (text_cells_at text cells) from (length cells) place) }
+        FindsFirst (text_cells_at text cells) from (length cells) result }
     ensures same { space.new ≡ space.old }
 {
     // The lists fit in the block.

@@ -138,61 +138,63 @@ length-padded_text long t le = omega (arith, length-append (replicate (long - le
 
 module _ (t u : Text) where
   -- the union of two bit strings
-  union_is : (long : ℕ) → long ≡ max (length t) (length u) → union (flat_map bits_of_digit t) (flat_map bits_of_digit u) ≡ bitwise ◌||◌ (flat_map bits_of_digit (padded_text long t)) (flat_map bits_of_digit (padded_text long u))
-  union_is long is =
-      let p = flat_map bits_of_digit t in
-      let q = flat_map bits_of_digit u in
-      let et : length u - length t ≡ long - length t = omega arith in
-      let eu : length t - length u ≡ long - length u = omega arith in
-      let left : padded (length q) p ≡ flat_map bits_of_digit (padded_text long t) = ap (λ n. padded n p) (length-bits_of u) ∙ padded_digits (length u) t ∙ ap (λ n. flat_map bits_of_digit (replicate n 48 ++ t)) et in
-      let right : padded (length p) q ≡ flat_map bits_of_digit (padded_text long u) = ap (λ n. padded n q) (length-bits_of t) ∙ padded_digits (length t) u ∙ ap (λ n. flat_map bits_of_digit (replicate n 48 ++ u)) eu in
-      ap (λ l. bitwise ◌||◌ l (padded (length p) q)) left ∙ ap (bitwise ◌||◌ (flat_map bits_of_digit (padded_text long t))) right
+  module _ (long : ℕ) (is : long ≡ max (length t) (length u)) where
+    union_is : union (flat_map bits_of_digit t) (flat_map bits_of_digit u) ≡ bitwise ◌||◌ (flat_map bits_of_digit (padded_text long t)) (flat_map bits_of_digit (padded_text long u))
+    union_is =
+        let p = flat_map bits_of_digit t in
+        let q = flat_map bits_of_digit u in
+        let et : length u - length t ≡ long - length t = omega arith in
+        let eu : length t - length u ≡ long - length u = omega arith in
+        let left : padded (length q) p ≡ flat_map bits_of_digit (padded_text long t) = ap (λ n. padded n p) (length-bits_of u) ∙ padded_digits (length u) t ∙ ap (λ n. flat_map bits_of_digit (replicate n 48 ++ t)) et in
+        let right : padded (length p) q ≡ flat_map bits_of_digit (padded_text long u) = ap (λ n. padded n q) (length-bits_of t) ∙ padded_digits (length t) u ∙ ap (λ n. flat_map bits_of_digit (replicate n 48 ++ u)) eu in
+        ap (λ l. bitwise ◌||◌ l (padded (length p) q)) left ∙ ap (bitwise ◌||◌ (flat_map bits_of_digit (padded_text long t))) right
 
-  pub union_at : (long k x y : ℕ) → long ≡ max (length t) (length u) → k < long → x ≡ get_or (padded_text long t) k 48 → y ≡ get_or (padded_text long u) k 48 → is_octal x ≡ true → is_octal y ≡ true → slice_get (octal (union (flat_map bits_of_digit t) (flat_map bits_of_digit u))) k ≡ Some (bit_or x y)
-  union_at long k x y is h ex ey ox oy =
-      ap (λ l. slice_get (octal l) k) (union_is long is)
-      ∙ bitwise_digit ◌||◌ (padded_text long t) (padded_text long u) k (omega (arith, length-padded_text)) (omega (arith, length-padded_text))
-      ∙ ap Some (ap (λ x. digit_by ◌||◌ x (get_or (padded_text long u) k 48)) (sym ex) ∙ ap (digit_by ◌||◌ x) (sym ey) ∙ or_digit x y ox oy)
+    pub union_at : (k x y : ℕ) → k < long → x ≡ get_or (padded_text long t) k 48 → y ≡ get_or (padded_text long u) k 48 → is_octal x ≡ true → is_octal y ≡ true → slice_get (octal (union (flat_map bits_of_digit t) (flat_map bits_of_digit u))) k ≡ Some (bit_or x y)
+    union_at k x y h ex ey ox oy =
+        ap (λ l. slice_get (octal l) k) union_is
+        ∙ bitwise_digit ◌||◌ (padded_text long t) (padded_text long u) k (omega (arith, length-padded_text)) (omega (arith, length-padded_text))
+        ∙ ap Some (ap (λ x. digit_by ◌||◌ x (get_or (padded_text long u) k 48)) (sym ex) ∙ ap (digit_by ◌||◌ x) (sym ey) ∙ or_digit x y ox oy)
 
-  pub union_past : (long k : ℕ) → long ≡ max (length t) (length u) → long ≤ k → slice_get (octal (union (flat_map bits_of_digit t) (flat_map bits_of_digit u))) k ≡ None
-  union_past long k is h =
-      let p = flat_map bits_of_digit (padded_text long t) in
-      let q = flat_map bits_of_digit (padded_text long u) in
-      ap (λ l. slice_get (octal l) k) (union_is long is) ∙ no_digit (bitwise ◌||◌ p q) k (omega (arith, length-padded_text, length-bits_of, length-bitwise))
+    pub union_past : (k : ℕ) → long ≤ k → slice_get (octal (union (flat_map bits_of_digit t) (flat_map bits_of_digit u))) k ≡ None
+    union_past k h =
+        let p = flat_map bits_of_digit (padded_text long t) in
+        let q = flat_map bits_of_digit (padded_text long u) in
+        ap (λ l. slice_get (octal l) k) union_is ∙ no_digit (bitwise ◌||◌ p q) k (omega (arith, length-padded_text, length-bits_of, length-bitwise))
 
   -- the intersection of two bit strings
-  intersection_is : (short : ℕ) → short ≡ min (length t) (length u) → intersection (flat_map bits_of_digit t) (flat_map bits_of_digit u) ≡ bitwise ◌&&◌ (flat_map bits_of_digit (drop (length t - short) t)) (flat_map bits_of_digit (drop (length u - short) u))
-  intersection_is short is =
-      let p = flat_map bits_of_digit t in
-      let q = flat_map bits_of_digit u in
-      let et : length p - length q ≡ 3 * (length t - short) = omega (arith, length-bits_of) in
-      let eu : length q - length p ≡ 3 * (length u - short) = omega (arith, length-bits_of) in
-      let left : cut (length q) p ≡ flat_map bits_of_digit (drop (length t - short) t) = ap (λ n. drop n p) et ∙ drop_digits (length t - short) t in
-      let right : cut (length p) q ≡ flat_map bits_of_digit (drop (length u - short) u) = ap (λ n. drop n q) eu ∙ drop_digits (length u - short) u in
-      ap (λ l. bitwise ◌&&◌ l (cut (length p) q)) left ∙ ap (bitwise ◌&&◌ (flat_map bits_of_digit (drop (length t - short) t))) right
+  module _ (short : ℕ) (is : short ≡ min (length t) (length u)) where
+    intersection_is : intersection (flat_map bits_of_digit t) (flat_map bits_of_digit u) ≡ bitwise ◌&&◌ (flat_map bits_of_digit (drop (length t - short) t)) (flat_map bits_of_digit (drop (length u - short) u))
+    intersection_is =
+        let p = flat_map bits_of_digit t in
+        let q = flat_map bits_of_digit u in
+        let et : length p - length q ≡ 3 * (length t - short) = omega (arith, length-bits_of) in
+        let eu : length q - length p ≡ 3 * (length u - short) = omega (arith, length-bits_of) in
+        let left : cut (length q) p ≡ flat_map bits_of_digit (drop (length t - short) t) = ap (λ n. drop n p) et ∙ drop_digits (length t - short) t in
+        let right : cut (length p) q ≡ flat_map bits_of_digit (drop (length u - short) u) = ap (λ n. drop n q) eu ∙ drop_digits (length u - short) u in
+        ap (λ l. bitwise ◌&&◌ l (cut (length p) q)) left ∙ ap (bitwise ◌&&◌ (flat_map bits_of_digit (drop (length t - short) t))) right
 
-  pub intersection_at : (short k x y : ℕ) → short ≡ min (length t) (length u) → k < short → x ≡ get_or t (k + length t - short) 48 → y ≡ get_or u (k + length u - short) 48 → is_octal x ≡ true → is_octal y ≡ true → slice_get (octal (intersection (flat_map bits_of_digit t) (flat_map bits_of_digit u))) k ≡ Some (bit_and x y)
-  intersection_at short k x y is h ex ey ox oy =
-      let lt = length-drop (length t - short) t in
-      let lu = length-drop (length u - short) u in
-      let et : k + length t - short ≡ length t - short + k = omega arith in
-      let eu : k + length u - short ≡ length u - short + k = omega arith in
-      let at_t : get_or (drop (length t - short) t) k 48 ≡ x = get_or-drop (length t - short) t k 48 ∙ ap (λ i. get_or t i 48) (sym et) ∙ sym ex in
-      let at_u : get_or (drop (length u - short) u) k 48 ≡ y = get_or-drop (length u - short) u k 48 ∙ ap (λ i. get_or u i 48) (sym eu) ∙ sym ey in
-      ap (λ l. slice_get (octal l) k) (intersection_is short is)
-      ∙ bitwise_digit ◌&&◌ (drop (length t - short) t) (drop (length u - short) u) k (omega arith) (omega arith)
-      ∙ ap Some (ap (λ x. digit_by ◌&&◌ x (get_or (drop (length u - short) u) k 48)) at_t ∙ ap (digit_by ◌&&◌ x) at_u ∙ and_digit x y ox oy)
+    pub intersection_at : (k x y : ℕ) → k < short → x ≡ get_or t (k + length t - short) 48 → y ≡ get_or u (k + length u - short) 48 → is_octal x ≡ true → is_octal y ≡ true → slice_get (octal (intersection (flat_map bits_of_digit t) (flat_map bits_of_digit u))) k ≡ Some (bit_and x y)
+    intersection_at k x y h ex ey ox oy =
+        let lt = length-drop (length t - short) t in
+        let lu = length-drop (length u - short) u in
+        let et : k + length t - short ≡ length t - short + k = omega arith in
+        let eu : k + length u - short ≡ length u - short + k = omega arith in
+        let at_t : get_or (drop (length t - short) t) k 48 ≡ x = get_or-drop (length t - short) t k 48 ∙ ap (λ i. get_or t i 48) (sym et) ∙ sym ex in
+        let at_u : get_or (drop (length u - short) u) k 48 ≡ y = get_or-drop (length u - short) u k 48 ∙ ap (λ i. get_or u i 48) (sym eu) ∙ sym ey in
+        ap (λ l. slice_get (octal l) k) intersection_is
+        ∙ bitwise_digit ◌&&◌ (drop (length t - short) t) (drop (length u - short) u) k (omega arith) (omega arith)
+        ∙ ap Some (ap (λ x. digit_by ◌&&◌ x (get_or (drop (length u - short) u) k 48)) at_t ∙ ap (digit_by ◌&&◌ x) at_u ∙ and_digit x y ox oy)
 
-  pub intersection_past : (short k : ℕ) → short ≡ min (length t) (length u) → short ≤ k → slice_get (octal (intersection (flat_map bits_of_digit t) (flat_map bits_of_digit u))) k ≡ None
-  intersection_past short k is h =
-      let p = flat_map bits_of_digit (drop (length t - short) t) in
-      let q = flat_map bits_of_digit (drop (length u - short) u) in
-      let lt = length-drop (length t - short) t in
-      let lu = length-drop (length u - short) u in
-      let lp = length-bits_of (drop (length t - short) t) in
-      let lq = length-bits_of (drop (length u - short) u) in
-      let lb = length-bitwise ◌&&◌ p q (omega arith) in
-      ap (λ l. slice_get (octal l) k) (intersection_is short is) ∙ no_digit (bitwise ◌&&◌ p q) k (omega arith)
+    pub intersection_past : (k : ℕ) → short ≤ k → slice_get (octal (intersection (flat_map bits_of_digit t) (flat_map bits_of_digit u))) k ≡ None
+    intersection_past k h =
+        let p = flat_map bits_of_digit (drop (length t - short) t) in
+        let q = flat_map bits_of_digit (drop (length u - short) u) in
+        let lt = length-drop (length t - short) t in
+        let lu = length-drop (length u - short) u in
+        let lp = length-bits_of (drop (length t - short) t) in
+        let lq = length-bits_of (drop (length u - short) u) in
+        let lb = length-bitwise ◌&&◌ p q (omega arith) in
+        ap (λ l. slice_get (octal l) k) intersection_is ∙ no_digit (bitwise ◌&&◌ p q) k (omega arith)
 
 -- the complement of a bit string
 pub complement_at : (t : Text) (k x : ℕ) → k < length t → x ≡ get_or t k 48 → is_octal x ≡ true → slice_get (octal (complement (flat_map bits_of_digit t))) k ≡ Some (bit_xor x 7)

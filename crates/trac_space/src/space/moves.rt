@@ -9,7 +9,7 @@ ghost use Rattle.trac_space.specs.Texts.{IsByte};
 
 use super::Space;
 use crate::cell::Cell;
-use crate::character_runs::translate_run;
+use crate::character_runs::{CharacterRun, translate_run};
 use crate::copies::{copy_cells, copy_mostly_apart};
 
 impl<'a> Space<'a> {
@@ -53,30 +53,30 @@ impl<'a> Space<'a> {
 
     /// Moves characters from the front of active to the end of neutral, at most `most`. `table` has a
     /// number for each byte: 0 keeps the character, 1 makes it a comma mark, a higher number ends the run
-    /// before it. Gives the length of the run, and the place in it behind its last comma mark.
+    /// before it. Gives the run.
     #[inline]
-    pub fn run_to_neutral(&mut self, most: u32, table: &[u8]) -> (u32, u32)
+    pub fn run_to_neutral(&mut self, most: u32, table: &[u8]) -> CharacterRun
         requires within { most ≤ length self.old.active }
         requires bytes { All IsByte (take most self.old.active) }
         requires whole { length table.now ≡ 256 }
-        ensures few { result.0 ≤ most }
-        ensures run { All (IsInRun table.now) (take result.0 self.old.active) }
-        ensures ends { result.0 < most →
-            1 < number_in table.now (slice_index_or self.old.active result.0 (Byte 0)) }
-        ensures last { result.1 ≤ result.0 }
-        ensures no_comma_from { NoComma (drop result.1 (turned table.now
-            (take result.0 self.old.active))) }
+        ensures few { result.len ≤ most }
+        ensures run { All (IsInRun table.now) (take result.len self.old.active) }
+        ensures ends { result.len < most →
+            1 < number_in table.now (slice_index_or self.old.active result.len (Byte 0)) }
+        ensures last { result.no_comma_from ≤ result.len }
+        ensures no_comma_from { NoComma (drop result.no_comma_from (turned table.now
+            (take result.len self.old.active))) }
         ensures moved { self.new ≡ record self.old {
-          neutral = self.old.neutral ++ turned table.now (take result.0 self.old.active);
-          active = drop result.0 self.old.active;
+          neutral = self.old.neutral ++ turned table.now (take result.len self.old.active);
+          active = drop result.len self.old.active;
         } }
     {
         let start = (self.end - self.active) as usize;
         let to = (self.store + self.neutral) as usize;
-        let (count, last) = translate_run(self.cells, start, to, most as usize, table);
-        self.neutral += count as u32;
-        self.active -= count as u32;
-        (count as u32, last as u32)
+        let run = translate_run(self.cells, start, to, most as usize, table);
+        self.neutral += run.len;
+        self.active -= run.len;
+        run
     }
 
     /// Removes the first `n` cells of active, one or more, and appends `cell` to neutral for them. Needs

@@ -14,7 +14,7 @@ returns-else-not-add-clause-index c =
     let index = c.requires.state.index (omega (arith, c.index_area_len.ensures.value, c.if-index_area_len-eq0.false)) in
     let place = subst (λ n. IsOpenFor s.index_area n done.0) number done.1 in
     let overflow : k < length s.index_area / 4 = omega (arith, c.index_area_len-2.ensures.value, c.if-form-index_area_len.false) in
-    let all = index-next s.index_area forms k done.0 c.args.form.start c.requires.some c.requires.state.place.start_is index overflow place in
+    let all = index-next s.index_area forms k done.0 c.args.form.start (record { within = c.requires.some; start_is = c.requires.state.place.start_is }) index overflow place in
     λ _. subst (λ t. IsIndex t (take (k + 1) forms)) (sym (ap (λ (w : Lists). w.index_area) done.2)) all
 
 pub hash-first-requires : goal.hash-first-requires

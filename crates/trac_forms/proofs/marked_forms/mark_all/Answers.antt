@@ -43,7 +43,7 @@ loop-from-preserved c =
       marking = c.mark_named-places.ensures.marking;
       same = marked-alone c.args.space.now s t u _ i.same same marked;
       marks = ap (λ cells. with_marks (texts_between cells (from + n + 1) end) (forms_in u.store)) (ap (λ (w : Lists). w.neutral) marked)
-          ∙ marked-first t.neutral from end n t u parted le comma_there marked
+          ∙ marked-first t.neutral from end n parted le comma_there t u marked
           ∙ ap (λ cells. with_marks (texts_between cells from end) (forms_in t.store)) kept
           ∙ ap (λ cells. with_marks (texts_between s.neutral from end) (forms_in cells)) stored
           ∙ i.marks;

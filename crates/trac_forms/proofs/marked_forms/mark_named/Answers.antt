@@ -15,7 +15,7 @@ write_store-requires-clause-within c =
 
 pub returns-in-Some-clause-marked : goal.returns-in-Some-clause-marked
 returns-in-Some-clause-marked c =
-    (marked-lists c.requires.marking.formed (rw c.new.ensures at c.in-Some.ensures).named (rw c.new.ensures at c.in-Some.ensures).start_is c.write_store.ensures).0
+    (marked-lists c.requires.marking.formed (rw c.new.ensures at c.in-Some.ensures) c.write_store.new.self c.write_store.ensures).0
 
 pub returns-in-None-clause-marked : goal.returns-in-None-clause-marked
 returns-in-None-clause-marked c =
@@ -27,11 +27,11 @@ pub returns-in-Some-clause-marking : goal.returns-in-Some-clause-marking
 returns-in-Some-clause-marking c =
     let s = c.args.space.now in
     let found = (rw c.new.ensures at c.in-Some.ensures) in
-    let both = marked-lists c.requires.marking.formed found.named found.start_is c.write_store.ensures in
+    let both = marked-lists c.requires.marking.formed found c.write_store.new.self c.write_store.ensures in
     let read = marked-read s c.write_store.new.self c.in-Some.form.number (part_text s.neutral c.args.name.from c.args.name.to) c.requires.marking.formed.distinct found.named both.0 in
     let e = c.earlier.ensures in
     record {
       formed = both.1;
       first = subst (λ fs. IsMarkedFrom fs c.earlier.result.number c.earlier.result.start) (sym read)
-          (marked-from (forms_in s.store) c.in-Some.form.number c.in-Some.form.start c.args.places.first c.earlier.result c.requires.marking.first found.named.within found.start_is e.one e.first e.second);
+          (marked-from (forms_in s.store) c.args.places.first c.in-Some.form c.earlier.result c.requires.marking.first (record { within = found.named.within; start_is = found.start_is }) (record { one = e.one; first = e.first; second = e.second }));
     }

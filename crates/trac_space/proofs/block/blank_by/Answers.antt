@@ -1,13 +1,13 @@
 use Rattle.trac_space.proofs.Imports.{◌≡◌, ℕ, ◌+◌, ◌-◌, ◌≤◌, List, length, take, replicate, arith, rules, take-length, places, same_lists, elements, put_mid, Cell, Byte}
 use Rattle.trac_space.proofs.block.blank_by.Goals as goal
 
--- n more cells are blank, behind `done` blank cells
-more-blank : (was part new : List Cell) (done n : ℕ) → done + n ≤ length was → n ≤ length part → take done was ≡ replicate done (Byte 0) → part ≡ replicate (length part) (Byte 0) → new ≡ take (done + n - done) part → take (done + n) (put_mid done (done + n - done) was new) ≡ replicate (done + n) (Byte 0)
-more-blank was part new done n within few before blank is =
-    rw is (same_lists _ _ (search (rules, places)) (λ i d less. grind (arith, elements)))
+-- the first n of the blank cells in `part` are put behind `done` blank cells
+module _ (was part new : List Cell) (done n : ℕ) (within : done + n ≤ length was) (few : n ≤ length part) (is : new ≡ take (done + n - done) part) where
+  more-blank : take done was ≡ replicate done (Byte 0) → part ≡ replicate (length part) (Byte 0) → take (done + n) (put_mid done (done + n - done) was new) ≡ replicate (done + n) (Byte 0)
+  more-blank before blank = rw is (same_lists _ _ (search (rules, places)) (λ i d less. grind (arith, elements)))
 
-still-long : (was part new : List Cell) (done n : ℕ) → done + n ≤ length was → n ≤ length part → new ≡ take (done + n - done) part → done + n ≤ length (put_mid done (done + n - done) was new)
-still-long was part new done n within few is = rw is (search (rules, places))
+  still-long : done + n ≤ length (put_mid done (done + n - done) was new)
+  still-long = rw is (search (rules, places))
 
 pub loop-done-preserved : goal.loop-done-preserved
 loop-done-preserved c =
@@ -18,7 +18,7 @@ loop-done-preserved c =
     let few : n ≤ length part = omega (arith, c.min.ensures) in
     record {
       within = still-long was part c.copy_from_slice.new.self c.loop-done.done n within few c.copy_from_slice.ensures.after;
-      blank = more-blank was part c.copy_from_slice.new.self c.loop-done.done n within few c.loop-done.invariant.blank c.requires.blank c.copy_from_slice.ensures.after;
+      blank = more-blank was part c.copy_from_slice.new.self c.loop-done.done n within few c.copy_from_slice.ensures.after c.loop-done.invariant.blank c.requires.blank;
     }
 
 pub returns : goal.returns

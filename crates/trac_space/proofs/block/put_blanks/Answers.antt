@@ -7,12 +7,10 @@ more-blank was part n before blank within =
     same_lists _ _ (search (rules, places)) (λ i d less. grind (arith, elements))
 
 -- after all whole parts there is room for less than one
-few-left : (len cells was now n k : ℕ) → 0 < n → was ≤ cells → len ≡ was → (cells - len) / n ≤ k → k ≤ (cells - len) / n → now ≡ was + k * n → (now ≤ cells) × (cells - now ≤ n)
-few-left len cells was now n k some fewer len_is past within parts =
-    let all : k ≡ (cells - len) / n = omega arith in
-    let times = ap (λ q. q * n) all in
-    let split = div-add-mod' (cells - len) n in
-    let rest = mod-lt (cells - len) some in
+few-left : (cells was now n : ℕ) → 0 < n → was ≤ cells → now ≡ was + (cells - was) / n * n → (now ≤ cells) × (cells - now ≤ n)
+few-left cells was now n some fewer parts =
+    let split = div-add-mod' (cells - was) n in
+    let rest = mod-lt (cells - was) some in
     (omega arith, omega arith)
 
 pub loop-part-preserved : goal.loop-part-preserved
@@ -35,6 +33,11 @@ returns c =
     let was = c.loop-part.block.items in
     let n = c.args.cells - c.len-2.result in
     let len = c.len-2.ensures in
-    let few = few-left c.len.result c.args.cells (length c.args.block.now.items) (length was) (length c.args.part.now) c.loop-part._part c.requires.some c.requires.fewer (omega (arith, c.len.ensures)) c.loop-part-test.false c.loop-part.auto._part-end c.loop-part.invariant.parts in
+    let before = length c.args.block.now.items in
+    let part = length c.args.part.now in
+    let same : c.len.result ≡ before = omega (arith, c.len.ensures) in
+    let room : (c.args.cells - c.len.result) / part ≡ (c.args.cells - before) / part = ap (λ len. (c.args.cells - len) / part) same in
+    let all : c.loop-part._part ≡ (c.args.cells - before) / part = omega (arith, room, c.loop-part-test.false, c.loop-part.auto._part-end) in
+    let few = few-left c.args.cells before (length was) part c.requires.some c.requires.fewer (c.loop-part.invariant.parts ∙ ap (λ k. before + k * part) all) in
     let all = c.in_ok-extend_from_slice-2.ensures.items ∙ more-blank was c.args.part.now n c.loop-part.invariant.blank c.requires.blank (omega (arith, few.1)) in
     all ∙ ap (λ k. replicate k (Byte 0)) (omega (arith, few.0))

@@ -16,12 +16,12 @@ loop-i-preserved c =
     let more = c.write_block-in-loop-i.ensures in
     let middle = put_mid i (i + 8 - i) c.loop-i.cells first in
     let next : i + 16 ≡ i + 8 + 8 = omega arith in
-    let middle_is : middle ≡ written_up_to (i + 8) text was = block-up_to text was c.loop-i.cells first i (i + 8) refl c.requires half c.loop-i.invariant.written made in
+    let middle_is : middle ≡ written_up_to (i + 8) text was = block-up_to text was c.loop-i.cells first i c.requires (i + 8) refl half c.loop-i.invariant.written made in
     let middle_long : length middle ≡ n = long-up_to c.loop-i.cells first i (i + 8) n refl c.loop-i.invariant.same half (block-long text first i (i + 8) refl half made) in
     record {
       within = all;
       same = long-up_to middle second (i + 8) (i + 16) n next middle_long all (block-long text second (i + 8) (i + 16) next all more);
-      written = block-up_to text was middle second (i + 8) (i + 16) next c.requires all middle_is more;
+      written = block-up_to text was middle second (i + 8) c.requires (i + 16) next all middle_is more;
     }
 
 pub returns-clause-written : goal.returns-clause-written

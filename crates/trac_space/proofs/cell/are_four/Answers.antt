@@ -9,6 +9,6 @@ returns c = λ t.
     let none = (none-is (c.kinds_of_two.result + c.kinds_of_two-2.result)).0 t in
     let first : c.kinds_of_two.result ≡ 0 = omega (arith, none) in
     let second : c.kinds_of_two-2.result ≡ 0 = omega (arith, none) in
-    both-ends IsByte cells at 2 2 4 (omega arith) (omega arith) (omega arith) c.requires
+    both-ends IsByte cells at 2 2 4 (omega arith) c.requires
     (bytes-kinds (take 2 (drop at cells)) (sym c.kinds_of_two.ensures.kinds ∙ first))
     (bytes-kinds (take 2 (drop (at + 2) cells)) (sym c.kinds_of_two-2.ensures.kinds ∙ second))

@@ -10,9 +10,9 @@ loop-done-preserved c =
     let place : at + (done + 8 - 8) ≡ at + done = omega arith in
     record {
       within = omega arith;
-      bytes = both-ends IsByte c.args.cells.now at done 8 (done + 8) (omega arith) (omega arith) (omega arith) (omega arith) c.loop-done.invariant.bytes (rw place bytes);
+      bytes = both-ends IsByte c.args.cells.now at done 8 (done + 8) (omega arith) (omega arith) c.loop-done.invariant.bytes (rw place bytes);
     }
 
 pub returns : goal.returns
 returns c = λ t.
-    both-ends IsByte c.args.cells.now c.args.at c.loop-done.done 8 c.args.n (omega arith) (omega arith) (omega arith) c.requires c.loop-done.invariant.bytes (c.are_characters-2.ensures.0 t)
+    both-ends IsByte c.args.cells.now c.args.at c.loop-done.done 8 c.args.n (omega arith) c.requires c.loop-done.invariant.bytes (c.are_characters-2.ensures.0 t)

@@ -7,9 +7,7 @@ pub byte_in-byte-requires : goal.byte_in-byte-requires
 byte_in-byte-requires c =
     let was = c.args.cells.now in
     let start = c.args.start in
-    let source = turned c.args.table.now (drop start was) in
-    let long : length source ≡ length was - start = length-map (drop start was) (turned_by c.args.table.now) ∙ length-drop start was in
-    let same = run-cell was c.loop-count.cells source start c.args.to c.loop-count.count (Byte 0) c.requires.before (omega (arith, c.requires.within, c.loop-count-test.true)) (omega (arith, long, c.requires.within, c.loop-count-test.true)) c.loop-count.invariant.copied in
+    let same = run-cell c.args.table.now was start c.loop-count.count (Byte 0) (omega (arith, c.requires.within, c.loop-count-test.true)) c.loop-count.cells c.args.to c.requires.before c.loop-count.invariant.copied in
     subst IsByte (sym same) (byte-at was start c.loop-count.count c.args.most (Byte 0) c.loop-count-test.true c.requires.within c.requires.bytes)
 
 pub loop-count-preserved : goal.loop-count-preserved
@@ -25,7 +23,7 @@ loop-count-preserved c =
     let less = c.loop-count-test.true in
     let inside : start + k < length was = omega (arith, c.requires.within, less) in
     let long : length source ≡ length was - start = length-map (drop start was) (turned_by table) ∙ length-drop start was in
-    let same = run-cell was now source start to k (Byte 0) c.requires.before inside (omega (arith, long, inside)) kept.copied in
+    let same = run-cell table was start k (Byte 0) inside now to c.requires.before kept.copied in
     let cell = slice_index_or was (start + k) (Byte 0) in
     let number : slice_index_or table c.from.result 0 ≡ number_in table cell = ap (λ b. slice_index_or table b 0) (c.from.ensures ∙ c.byte_in-byte.ensures ∙ ap character_of same) in
     let put = sym (turned-at table was start k (Byte 0) inside) in
@@ -37,8 +35,8 @@ loop-count-preserved c =
           record {
             within = omega (arith, less);
             run = run-more table was start k (Byte 0) inside kept.run (omega (arith, none));
-            last = omega (arith, w.last-is, kept.last);
-            no_comma_from = rw w.last-is (no_comma_from-more table was start k (Byte 0) inside c.loop-count.last kept.last (ap is_comma (turned-byte table cell none)) kept.no_comma_from);
+            last = omega (arith, w.no_comma_from-is, kept.last);
+            no_comma_from = rw w.no_comma_from-is (no_comma_from-more table was start k (Byte 0) inside c.loop-count.no_comma_from kept.last (ap is_comma (turned-byte table cell none)) kept.no_comma_from);
             copied = w.cells-is ∙ ap (set now (to + k)) (byte ∙ sym (turned-byte table cell none)) ∙ copied;
           })
       | else-number-eq0+then-number-eq1 w ↦ (
@@ -46,8 +44,8 @@ loop-count-preserved c =
           record {
             within = omega (arith, less);
             run = run-more table was start k (Byte 0) inside kept.run (omega (arith, one));
-            last = omega (arith, w.last-is);
-            no_comma_from = rw w.last-is (no_comma_from-none source (k + 1) (omega (arith, long, inside)));
+            last = omega (arith, w.no_comma_from-is);
+            no_comma_from = rw w.no_comma_from-is (no_comma_from-none source (k + 1) (omega (arith, long, inside)));
             copied = w.cells-is ∙ ap (set now (to + k)) (sym (turned-one table cell one)) ∙ copied;
           })
     ]

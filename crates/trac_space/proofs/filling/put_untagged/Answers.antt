@@ -9,7 +9,7 @@ both : (c : After-copy_short) (m : ℕ) → (m ≡ c.args.given.start + c.args.g
 both c m which few cleared is =
     let long : length (slice_range c.args.cells.now c.args.start (c.args.start + c.args.n)) ≡ c.args.n = omega (arith, length-between c.args.cells.now c.args.start (c.args.start + c.args.n) (omega (arith, c.requires.apart, c.requires.room))) in
     let others = others-less _ c.args.n (c.args.given.start + c.args.given.commas - c.args.start) m long which c.requires.others in
-    put-cleared c.args.cells.now c.copy_short.new.cells _ cleared c.args.start c.args.to c.args.n m c.requires.apart c.requires.room few c.copy_short.ensures.after is refl others
+    put-cleared c.args.cells.now c.copy_short.new.cells c.args.start c.args.to c.args.n c.requires.apart c.requires.room c.copy_short.ensures.after cleared _ m few is refl others
 
 pub returns-clause-front : goal.returns-clause-front
 returns-clause-front c =

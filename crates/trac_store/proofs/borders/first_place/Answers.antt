@@ -24,4 +24,4 @@ loop-i-preserved c =
 pub returns : goal.returns
 returns c =
     let size = length-map c.args.text.now (λ cell. character_of (untagged cell)) in
-    searched-all (tagged_text c.args.text.now) c.args.cells.now c.args.from c.loop-i.i c.loop-i.before (omega (arith, c.loop-i-test.false)) (omega (arith, c.loop-i.invariant.few, size)) c.loop-i.invariant.done
+    searched-all (tagged_text c.args.text.now) c.args.cells.now c.args.from c.loop-i.i c.loop-i.before c.loop-i.invariant.done (omega (arith, c.loop-i-test.false)) (omega (arith, c.loop-i.invariant.few, size))

@@ -13,15 +13,14 @@ byte_in-requires c =
     byte-seen (get_or cells (from + len - 1) (Byte 0)) (subst IsByte at (c.requires.part_bytes (len - 1) (Byte 0) (omega (arith, part-length cells from len c.requires.within))))
 
 -- parts whose last cells differ
-last-differs : (cells text : List Cell) (from n last : ℕ) → 0 < n → from + n ≤ length cells → n ≡ length text → last ≡ character_of (get_or text (length text - 1) (Byte 0)) → map seen (slice_range cells from (from + n)) ≡ map seen text → character_of (get_or cells (from + n - 1) (Byte 0)) ≡ last
-last-differs cells text from n last some within same last_is e =
+last-differs : (cells text : List Cell) (from n : ℕ) → 0 < n → from + n ≤ length cells → n ≡ length text → map seen (slice_range cells from (from + n)) ≡ map seen text → character_of (get_or cells (from + n - 1) (Byte 0)) ≡ character_of (get_or text (length text - 1) (Byte 0))
+last-differs cells text from n some within same e =
     let at = part-last cells from n some within in
     let place : n - 1 ≡ length text - 1 = omega arith in
     let there = get_or-map seen text (length text - 1) (Byte 0) (Byte 0) (omega arith) in
     sym (character-seen (get_or cells (from + n - 1) (Byte 0)))
     ∙ ap character_of (sym at ∙ ap (λ cs. get_or cs (n - 1) (Byte 0)) e ∙ ap (λ i. get_or (map seen text) i (Byte 0)) place ∙ there)
     ∙ character-seen (get_or text (length text - 1) (Byte 0))
-    ∙ sym last_is
 
 pub returns-then-len-text : goal.returns-then-len-text
 returns-then-len-text c =
@@ -30,7 +29,7 @@ returns-then-len-text c =
       λ e. absurd (false≢true e),
       λ e. elim c.then-len-text.branch [
         | then-len-text-via-then-len-text w ↦ absurd (omega (arith, w.if-len-text.true, ap length e, part-length c.args.cells.now c.args.from len within, length-map c.args.text.now seen))
-        | then-len-text-via-else-len-text+then-byte_in-last w ↦ absurd (let same = w.if-len-text.false in w.if-byte_in-last.true (w.byte_in.ensures ∙ last-differs c.args.cells.now c.args.text.now c.args.from len c.args.last (omega (arith, same, c.requires.name.some)) within same c.requires.last e))
+        | then-len-text-via-else-len-text+then-byte_in-last w ↦ absurd (let same = w.if-len-text.false in w.if-byte_in-last.true (w.byte_in.ensures ∙ last-differs c.args.cells.now c.args.text.now c.args.from len (omega (arith, same, c.requires.name.some)) within same e ∙ sym c.requires.last))
       ],
     )
 

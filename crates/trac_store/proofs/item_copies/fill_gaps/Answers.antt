@@ -1,5 +1,6 @@
 use Rattle.trac_store.proofs.Imports.{◌≡◌, ℕ, ◌+◌, ◌≤◌, ◌<◌, ◌++◌, List, length, map, take, drop, slice_range, Option, Some, None, MatchOption, sym, ap, ◌∙◌, arith, length-map, Cell, Byte, Text, Lists, used, HaveTags, filled, flat_text, filled_cells, untagged}
 use Rattle.trac_store.proofs.FilledParts.{IsBegin, given-takes, filled-flat, numbers-long, numbers-fewer, untagged-numbers}
+use Rattle.trac_store.specs.Arguments.{LoadsText}
 use Rattle.trac_store.proofs.item_copies.fill_gaps.Goals as goal
 use Rattle.trac_store.proofs.item_copies.fill_gaps.Goals.{After-min-first, After-tag_commas-commas}
 
@@ -26,7 +27,7 @@ same c begin_is =
 fewer : (c : After-tag_commas-commas) → HaveTags c.args.space.now.neutral c.tag_commas-commas.new.self.neutral c.min-first.result (c.min-first.result + c.tag_commas-commas.result)
 fewer c =
     let tagged = c.tag_commas-commas.ensures in
-    numbers-fewer c.args.space.now.neutral c.tag_commas-commas.new.self.neutral c.min-first.result c.args.texts.to c.tag_commas-commas.result (omega (arith, c.min-first.ensures)) c.requires.arguments.within tagged.numbers tagged.commas.within tagged.commas.others
+    numbers-fewer c.args.space.now.neutral c.tag_commas-commas.new.self.neutral c.min-first.result c.args.texts.to (omega (arith, c.min-first.ensures)) c.requires.arguments.within tagged.numbers c.tag_commas-commas.result tagged.commas.within tagged.commas.others
 
 -- the lists once the numbers are taken off again
 module _ (old mid put last : Lists) (a b : ℕ) (numbers : HaveTags old.neutral mid.neutral a b) (long : length mid.neutral ≡ length old.neutral) (same : mid ≡ record old { neutral = mid.neutral }) (last_is : last ≡ record put { neutral = take a put.neutral ++ map untagged (slice_range put.neutral a b) ++ drop b put.neutral }) where
@@ -43,9 +44,7 @@ module _ (old mid put last : Lists) (a b : ℕ) (numbers : HaveTags old.neutral 
       → MatchOption result
       ((put ≡ record mid { index_area = put.index_area }) × (mid.room < used mid + length more))
       (λ n. (length more ≡ n) × (used mid + n ≤ mid.room) × (put ≡ record mid { active = more ++ mid.active; index_area = put.index_area }))
-      → MatchOption result
-      ((last ≡ record old { index_area = last.index_area }) × (old.room < used old + length text))
-      (λ n. (length text ≡ n) × (used old + n ≤ old.room) × (last ≡ record old { active = flat_text text ++ old.active; index_area = last.index_area }))
+      → LoadsText old last text result
   cleared None more text is h = (
     last_is
         ∙ ap (λ (l : Lists). record l { neutral = take a l.neutral ++ map untagged (slice_range l.neutral a b) ++ drop b l.neutral }) h.0

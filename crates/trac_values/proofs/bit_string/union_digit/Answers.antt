@@ -7,8 +7,8 @@ pub returns-then-place-long : goal.returns-then-place-long
 returns-then-place-long c =
     let t = text_of_cells c.args.a.now in
     let u = text_of_cells c.args.b.now in
-    sym (union_past t u c.max-long.result c.args.k (omega (arith, length-text)) (omega (arith, length-text)))
+    sym (union_past t u c.max-long.result (omega (arith, length-text)) c.args.k (omega (arith, length-text)))
 
 pub returns : goal.returns
 returns c =
-    sym (union_at _ _ c.max-long.result c.args.k c.aligned_digit.result c.aligned_digit-2.result (omega (arith, length-text)) (omega (arith, length-text)) c.aligned_digit.ensures.digit c.aligned_digit-2.ensures.digit c.aligned_digit.ensures.octal c.aligned_digit-2.ensures.octal)
+    sym (union_at _ _ c.max-long.result (omega (arith, length-text)) c.args.k c.aligned_digit.result c.aligned_digit-2.result (omega (arith, length-text)) c.aligned_digit.ensures.digit c.aligned_digit-2.ensures.digit c.aligned_digit.ensures.octal c.aligned_digit-2.ensures.octal)

@@ -14,4 +14,4 @@ returns-clause-bytes g c =
     let kept = subst (λ v. Keeps (accepted g.W.Write.contents c.args.self.now) (accepted g.W.Write.contents v)) (sym c.self.view_is) c.make_room.ensures.bytes in
     appends_kept _ _ _ _ kept
     (appends_behind (g.W.Write.contents w.device.writer) (slice_range w.bytes w.start w.end) _ more
-    (part_appended w.bytes c.write.new.bytes more w.start w.end n _ written size (omega arith) (omega arith) (omega arith)))
+    (part_appended w.bytes w.start w.end n (omega arith) (omega arith) c.write.new.bytes more _ written size (omega arith)))

@@ -1,4 +1,4 @@
-use Rattle.trac_forms.proofs.Imports.{◌≡◌, length, map, length-map, length-between, ap, sym, ◌∙◌, arith}
+use Rattle.trac_forms.proofs.Imports.{◌≡◌, length, length-map, length-between, ap, sym, ◌∙◌, arith}
 use Rattle.trac_forms.proofs.ListedForms.{run-items}
 use Rattle.trac_store.specs.Stored.{item_of}
 use Rattle.trac_forms.proofs.listed.StoredForm.run.Goals as goal

@@ -1,4 +1,4 @@
-use Rattle.trac_forms.proofs.Imports.{◌≡◌, ◌+◌, ◌++◌, ◌∷◌, [], ◌∙◌, ◌≤◌, length, ap, arith, length_push, Form, form_cells, Lists, new_form, forms_in, count-le, length-new_form}
+use Rattle.trac_forms.proofs.Imports.{◌+◌, ◌++◌, ◌∷◌, [], ◌∙◌, ◌≤◌, length, ap, arith, length_push, Form, form_cells, Lists, new_form, forms_in, count-le, length-new_form}
 use Rattle.trac_space.specs.Lists as lists
 use Rattle.trac_forms.proofs.Strings.{used-stored, shown-restored}
 use Rattle.trac_forms.proofs.StoreChanges.{added, added-forms, added-indexed, added-stored}
@@ -27,7 +27,7 @@ store_form-requires-clause-room c =
 pub index_last-requires-clause-state : goal.index_last-requires-clause-state
 index_last-requires-clause-state c =
     let k = (goal.at.index_last-requires-clause-state c).After-store_form in
-    added-indexed c.self.inside.space c.store_form.new.space c.self.inside.count c.self.inside.last.number c.self.inside.last.start (form k) c.store_len.result c.self.invariant (fits k) c.store_len.ensures c.store_form.ensures.stored c.store_form.ensures.kept
+    added-indexed c.self.invariant (form k) c.store_form.new.space c.store_form.ensures.stored c.store_len.result c.store_len.ensures (fits k) c.store_form.ensures.kept
 
 pub index_last-requires-clause-last : goal.index_last-requires-clause-last
 index_last-requires-clause-last c =
@@ -44,7 +44,7 @@ overflow_add-self c =
 pub invariant_of-self : goal.invariant_of-self
 invariant_of-self c =
     let k = (goal.at.invariant_of-self c).After-store_form in
-    added-stored c.self.inside.space c.store_form.new.space c.index_last.new.space c.self.inside.count c.self.inside.last.number c.self.inside.last.start (form k) c.store_len.result c.self.invariant (omega arith) (fits k) (rw (← c.self.view_is) at c.requires.unnamed) c.store_len.ensures c.store_form.ensures.stored c.index_last.ensures.index c.index_last.ensures.same
+    added-stored c.self.invariant (form k) c.store_form.new.space c.store_form.ensures.stored c.store_len.result c.store_len.ensures c.index_last.new.space (record { pointer = (omega arith); fits = (fits k); unnamed = (rw (← c.self.view_is) at c.requires.unnamed) }) c.index_last.ensures.index c.index_last.ensures.same
 
 pub returns-clause-last : goal.returns-clause-last
 returns-clause-last c =

@@ -12,7 +12,7 @@ index_last-requires-clause-state g c =
     let s = c.self.inside.space in
     let form = given c.args.name.now (g.B.Body.items c.args.body.now) c.args.pointer in
     let room = rw (← c.self.view_is) at c.requires.room in
-    added-indexed s c.store_given.new.space c.self.inside.count c.self.inside.last.number c.self.inside.last.start form c.store_len.result c.self.invariant (omega (arith, used-stored s c.self.invariant.forms.whole, room, c.requires.len)) c.store_len.ensures c.store_given.ensures.stored c.store_given.ensures.kept
+    added-indexed c.self.invariant form c.store_given.new.space c.store_given.ensures.stored c.store_len.result c.store_len.ensures (omega (arith, used-stored s c.self.invariant.forms.whole, room, c.requires.len)) c.store_given.ensures.kept
 
 pub index_last-requires-clause-last : goal.index_last-requires-clause-last
 index_last-requires-clause-last g c =
@@ -31,7 +31,7 @@ invariant_of-self g c =
     let s = c.self.inside.space in
     let form = given c.args.name.now (g.B.Body.items c.args.body.now) c.args.pointer in
     let room = rw (← c.self.view_is) at c.requires.room in
-    added-stored s c.store_given.new.space c.index_last.new.space c.self.inside.count c.self.inside.last.number c.self.inside.last.start form c.store_len.result c.self.invariant (omega (arith, c.requires.len, c.requires.pointer)) (omega (arith, used-stored s c.self.invariant.forms.whole, room, c.requires.len)) (rw (← c.self.view_is) at c.requires.unnamed) c.store_len.ensures c.store_given.ensures.stored c.index_last.ensures.index c.index_last.ensures.same
+    added-stored c.self.invariant form c.store_given.new.space c.store_given.ensures.stored c.store_len.result c.store_len.ensures c.index_last.new.space (record { pointer = (omega (arith, c.requires.len, c.requires.pointer)); fits = (omega (arith, used-stored s c.self.invariant.forms.whole, room, c.requires.len)); unnamed = (rw (← c.self.view_is) at c.requires.unnamed) }) c.index_last.ensures.index c.index_last.ensures.same
 
 pub returns-clause-last : goal.returns-clause-last
 returns-clause-last g c =

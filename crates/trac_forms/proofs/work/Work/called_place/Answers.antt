@@ -2,10 +2,10 @@ use Rattle.trac_forms.proofs.Imports.{arith, AreItems, items}
 use Rattle.trac_forms.proofs.work.Work.called_place.Goals as goal
 use Rattle.trac_forms.proofs.work.Work.called_place.Goals.{After-heads_of-heads}
 
-called : (c : After-heads_of-heads) → AreItems c.self.inside.space c.args.form.number c.args.form.start c.heads_of-heads.result.name c.heads_of-heads.result.body c.heads_of-heads.result.pointer
+called : (c : After-heads_of-heads) → AreItems c.self.inside.space c.args.form c.heads_of-heads.result
 called c =
     let heads = c.heads_of-heads.ensures in
-    items _ _ _ _ _ _ c.self.invariant.forms.whole c.self.invariant.sound.forms (rw (← c.self.view_is) at c.requires.form).within (rw (← c.self.view_is) at c.requires.form).start_is heads.name heads.body heads.pointer
+    items _ c.args.form c.heads_of-heads.result c.self.invariant.forms.whole c.self.invariant.sound.forms (rw (← c.self.view_is) at c.requires.form) heads.name heads.body heads.pointer
 
 pub overflow_add-place : goal.overflow_add-place
 overflow_add-place c = omega (arith, called (goal.at.overflow_add-place c).After-heads_of-heads)

@@ -16,7 +16,7 @@ invariant_of-self c =
     let used = used-stored s c.self.invariant.forms.whole in
     let fits = rw (← c.self.view_is) at c.requires in
     let room : lists.used s + length (bytes text) ≤ s.room = omega (arith, length-map text Byte) in
-    before-active _ s c.reserve.new.self _ _ _ _ (bytes text) (reserved-kept (length text) s) c.self.invariant (All-map IsByte Byte text (λ k d l. tt)) room c.reserve.ensures.same c.load_bytes.ensures
+    before-active c.self.invariant _ c.reserve.new.self _ (bytes text) (reserved-kept (length text) s) (All-map IsByte Byte text (λ k d l. tt)) room c.reserve.ensures.same c.load_bytes.ensures
 
 pub returns-clause-sound : goal.returns-clause-sound
 returns-clause-sound c = (invariant_of-self c).sound

@@ -18,7 +18,7 @@ invariant_of-self c =
     let used = used-stored s c.self.invariant.forms.whole in
     let mid = c.reserve.new.self in
     let room : lists.used s + length more ≤ s.room = omega (arith, length-between s.neutral a b part.within) in
-    before-active _ s mid _ _ _ _ more (reserved-kept (b - a) s) c.self.invariant part.bytes room c.reserve.ensures.same
+    before-active c.self.invariant _ mid _ more (reserved-kept (b - a) s) part.bytes room c.reserve.ensures.same
     (c.load_from_neutral.ensures ∙ ap (λ (l : Lists). record mid { active = slice_range l.neutral a b ++ mid.active }) c.reserve.ensures.same)
 
 pub returns-clause-loaded : goal.returns-clause-loaded

@@ -14,7 +14,7 @@ invariant_of-self c =
     let more = slice_range s.neutral c.args.a c.args.b in
     let part = rw (← c.self.view_is) at c.requires in
     let room : lists.used s + length more ≤ s.room = omega (arith, length-between s.neutral c.args.a c.args.b part.within) in
-    before-active s.index_area s s _ _ _ _ more (inl refl) c.self.invariant part.bytes room refl c.load_from_neutral.ensures
+    before-active c.self.invariant s.index_area s _ more (inl refl) part.bytes room refl c.load_from_neutral.ensures
 
 pub returns-then-size-free_beside_index-clause-sound : goal.returns-then-size-free_beside_index-clause-sound
 returns-then-size-free_beside_index-clause-sound c = (invariant_of-self c).sound

@@ -46,7 +46,7 @@ invariant_of-self c =
     let s = c.self.inside.space in
     let whole = c.self.invariant.forms.whole in
     let order = c.called_place-items.ensures.order in
-    text-appended _ s c.put_character.new.space _ _ _ (next_text (shown s) c.args.form.number) c.put_character.result (reserved-kept _ s) c.self.invariant (λ e. omega (arith, (has-next s c.args.form.number _ _ whole order (within k) (are k) (omega (arith, order, c.if-items.false)) (c.put_character.ensures.put.0 e).0 (c.put_character.ensures.put.0 e).1).fits, used-stored s whole)) (puts at.After-put_character (within k) (are k)) c.put_character.ensures.left
+    text-appended c.self.invariant _ c.put_character.new.space (next_text (shown s) c.args.form.number) c.put_character.result (reserved-kept _ s) (λ e. omega (arith, (has-next s c.args.form.number _ _ whole order (within k) (are k) (omega (arith, order, c.if-items.false)) (c.put_character.ensures.put.0 e).0 (c.put_character.ensures.put.0 e).1).fits, used-stored s whole)) (puts at.After-put_character (within k) (are k)) c.put_character.ensures.left
 
 pub returns-clause-last : goal.returns-clause-last
 returns-clause-last c =

@@ -1,5 +1,5 @@
 use Rattle.trac_forms.proofs.Imports.{◌≡◌, ◌-◌, length, refl, sym, ap, ◌∙◌, arith, remove, length-remove, Lists, flat_forms, forms_in, start_of, ◌+◌, IsStore-remove, cells-remove, Stands, stands, removed-lists}
-use Rattle.trac_forms.proofs.Strings.{used-stored, restored, shown-restored}
+use Rattle.trac_forms.proofs.Strings.{CanStand, used-stored, restored, shown-restored}
 use Rattle.trac_forms.proofs.work.Work.remove.Goals as goal
 use Rattle.trac_forms.proofs.work.Work.remove.Goals.{After-unindex, After-remove_store}
 
@@ -25,7 +25,12 @@ invariant_of-self c =
     let k = c.args.form.number in
     let within = (rw (← c.self.view_is) at c.requires.form).within in
     let fewer = length-remove forms k within in
-    restored _ s c.remove_store.new.self (remove forms k) (c.self.inside.count - 1) 0 0 c.unindex.ensures.index h.sound (IsStore-remove forms k h.sound.forms) (omega (arith, ap length h.forms.whole, cells-remove forms k within, used-stored s h.forms.whole, h.sound.fits)) (gone (goal.at.invariant_of-self c).After-remove_store) (omega (arith, h.count_is, fewer)) (omega arith) refl
+    let can : CanStand s c.unindex.new.space.index_area (remove forms k) = record {
+      index = c.unindex.ensures.index;
+      distinct = IsStore-remove forms k h.sound.forms;
+      room = omega (arith, ap length h.forms.whole, cells-remove forms k within, used-stored s h.forms.whole, h.sound.fits);
+    } in
+    restored h _ c.remove_store.new.self (remove forms k) (c.self.inside.count - 1) (record { number = 0; start = 0 }) can (gone (goal.at.invariant_of-self c).After-remove_store) (omega (arith, h.count_is, fewer)) (record { within = omega arith; start_is = refl })
 
 pub returns-clause-gone : goal.returns-clause-gone
 returns-clause-gone c =

@@ -24,7 +24,7 @@ invariant_of-self c =
     let put : c.put_cells.new.self ≡ record s { neutral = map seen neutral; active = bytes text; index_area = (reserved (length neutral + length text) none).index_area } =
     rw (c.put_cells.ensures, c.load_bytes.ensures, c.reserve.ensures.same, c.clear_strings.ensures, append-nil (bytes text)) refl in
     subst (λ (l : Lists). IsStored l i.count i.last.number i.last.start) (sym put)
-    (restrung s i.count i.last.number i.last.start (map seen neutral) (bytes text) _ c.self.invariant (All-map IsStringCell seen neutral (λ k d less. string_cell-seen (get_or neutral k d) (c.requires.string k d less))) (All-map IsByte Byte text (λ k d less. tt)) room kept)
+    (restrung c.self.invariant (map seen neutral) (bytes text) _ (All-map IsStringCell seen neutral (λ k d less. string_cell-seen (get_or neutral k d) (c.requires.string k d less))) (All-map IsByte Byte text (λ k d less. tt)) room kept)
 
 pub returns-clause-sound : goal.returns-clause-sound
 returns-clause-sound c = (invariant_of-self c).sound

@@ -7,7 +7,7 @@ invariant_of-self c =
     let s = c.self.inside in
     let n = c.push_before.result in
     let size = length-take-le n c.args.text.now c.push_before.ensures.within in
-    text-appended _ s.space c.push_before.new.self s.count s.last.number s.last.start (take n c.args.text.now) true (reserved-kept n s.space) c.self.invariant (λ e. omega (arith, size, c.push_before.ensures.fits)) c.push_before.ensures.last tt
+    text-appended c.self.invariant _ c.push_before.new.self (take n c.args.text.now) true (reserved-kept n s.space) (λ e. omega (arith, size, c.push_before.ensures.fits)) c.push_before.ensures.last tt
 
 pub returns-clause-stops : goal.returns-clause-stops
 returns-clause-stops c =

@@ -67,8 +67,8 @@ allocate_spec 𝓤 𝓛 𝓜 𝓡 wired =
     use1 𝓛 (later (some (λ (x : Taken.Denot). (raw (alive 𝓛 ended.signature z.0.0 z.0.1) ⊛ ‵ (Taken.own_val x (v ∷ []))) ⊛ some (λ (ls : Lasts callee.ended z.0.0 y.0.3). ‵ (lasts callee.ended z.0.0 y.0.3 ls) ⊛ raw (fact 𝓤 (Told n x)))))) (id⊢ 𝓤 (k.post y v)) $
     await ! tt $ pick ! (λ x. split ! $ move ! (1 ∷ []) $ pick ! (λ _. split ! $ drop ! $ heard ! (Told n x) (λ said. split ! $ move ! (1 ∷ []) $
     taken ! n x v said
-    (λ count b o enough even small e. let p : Ptr = block_ptr b o in
-    use1 𝓛 (‵ (froom τ b o)) (hands_out 𝓛 τ count n b o asked.0 enough even small) $ lands_as ! e refl (tt, (record { fits = lit< tt }, ((tt, tt), tt))) $
+    (λ count b o are e. let p : Ptr = block_ptr b o in
+    use1 𝓛 (‵ (froom τ b o)) (hands_out 𝓛 τ count n b o asked.0 are) $ lands_as ! e refl (tt, (record { fits = lit< tt }, ((tt, tt), tt))) $
     first ! $ switches_on ! (get_tag ! (vrt ! refl (fld ! refl (stop !))) (whole !)) $ exec ! C Λ En (arm_body 0 (head (after 1 fn.body))) (then_runs 𝓛 C Λ En (after 2 fn.body) (at_ret En Post)) $
     sets ! (of_opd ! (get_in ! (vrt ! refl (fld ! refl (fld ! refl (stop !)))) (sub ! 0 refl (in_variant ! 1 0 refl refl (whole !))))) refl (tt, tt) $
     sets ! (of_opd ! (get ! refl)) refl (tt, tt) $

@@ -24,16 +24,24 @@ given_seen c =
 end_is : (c : After-self) → c.self.inside.store + c.args.first + (c.args.end - c.args.first) ≡ c.self.inside.store + c.args.end
 end_is c = omega (arith, c.requires.given_order)
 
-pub fill_cells-requires-clause-given : goal.fill_cells-requires-clause-given
-fill_cells-requires-clause-given c =
-    let k = (goal.at.fill_cells-requires-clause-given c).After-self in
+pub fill_cells-requires : goal.fill_cells-requires
+fill_cells-requires c =
+    let k = (goal.at.fill_cells-requires c).After-self in
+    let s = c.self.inside in
     let h = c.self.invariant in
     let size = sizes h c.self.view_is in
     let end = end_is k in
     record {
-      inside = omega (arith, end, c.requires.given_within, size.neutral, h.fits, h.behind);
-      bounded = omega (arith, h.bounded);
-      commas = rw end (commas-from-seen (given k) _ c.args.commas (given_seen k) c.requires.commas);
+      order = c.requires.order;
+      before = omega (arith, c.requires.within, size.store);
+      behind = omega (arith, end, c.requires.given_within, size.neutral);
+      room = omega (arith, h.fits);
+      inside = omega (arith, h.behind);
+      table = record {
+        inside = omega (arith, end, c.requires.given_within, size.neutral, h.fits, h.behind);
+        bounded = omega (arith, h.bounded);
+        commas = rw end (commas-from-seen (given k) _ c.args.commas (given_seen k) c.requires.commas);
+      };
     }
 
 -- what is put, as it stands in the block
@@ -75,7 +83,7 @@ returns-in-Some c =
     let n = s.end - s.active - c.in-Some.start in
     let is = is_seen k (given_seen at.After-self) in
     let n_is : length (more k) ≡ n = omega (arith, start) in
-    let moved = parts-more h (more k) c.fill_cells.new.cells n c.in-Some.start n_is (omega (arith, start, h.fits)) low put.len put.front put.put.2 in
+    let moved = parts-more h (more k) c.fill_cells.new.cells n c.in-Some.start n_is (omega (arith, start, h.fits)) low (record { len = put.len; front = put.front }) put.put.2 in
     let put_is = filled (map untagged (slice_range c.args.self.now.neutral c.args.first c.args.end)) (slice_range c.args.self.now.store c.args.a c.args.b) in (
       long k is ∙ n_is,
       omega (arith, low, n_is, start, size.store, size.neutral, size.active, size.index_area, size.room, h.fits, h.behind),
@@ -95,7 +103,7 @@ returns-in-None c =
     let put = c.in-None.ensures in
     let past = put.put in
     let all = long k (is_seen k (given_seen at.After-self)) in (
-      shown s.active (parts-kept h c.fill_cells.new.cells put.len put.front put.behind) ∙ c.self.view_is,
+      shown s.active (parts-kept h c.fill_cells.new.cells (record { len = put.len; front = put.front }) put.behind) ∙ c.self.view_is,
       omega (arith, past, all, size.store, size.neutral, size.active, size.index_area, size.room, h.fits, h.behind),
     )
 
@@ -111,7 +119,7 @@ invariant_of-self c =
     let low = put.put.1 in
     let n = s.end - s.active - c.in-Some.start in
     let n_is : length (more k) ≡ n = omega (arith, start) in
-    let moved = parts-more h (more k) c.fill_cells.new.cells n c.in-Some.start n_is (omega (arith, start, fits)) low put.len put.front put.put.2 in
+    let moved = parts-more h (more k) c.fill_cells.new.cells n c.in-Some.start n_is (omega (arith, start, fits)) low (record { len = put.len; front = put.front }) put.put.2 in
     tagged _ h moved refl (omega (arith, fits, low, start, n_is)) (omega (arith, behind)) h.calls h.linked
 
 pub invariant_of-self-in-None : goal.invariant_of-self-in-None
@@ -119,4 +127,4 @@ invariant_of-self-in-None c =
     let h = c.self.invariant in
     let fits = h.fits in
     let put = c.in-None.ensures in
-    tagged _ h (parts-kept h c.fill_cells.new.cells put.len put.front put.behind) refl (omega (arith, fits)) (omega (arith, h.behind)) h.calls h.linked
+    tagged _ h (parts-kept h c.fill_cells.new.cells (record { len = put.len; front = put.front }) put.behind) refl (omega (arith, fits)) (omega (arith, h.behind)) h.calls h.linked
