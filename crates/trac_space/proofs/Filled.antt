@@ -82,6 +82,14 @@ task cells from stop low to start len = record {
   last = to;
 }
 
+-- more cells were put right before place `to`, from `lower` on, and those before `low` are left
+record PutMore (now new : List Cell) (low lower to : ℕ) (more : List Cell) : Type 0 where
+  pub room : low ≤ lower
+  pub is_long : lower + length more ≡ to
+  pub size : length new ≡ length now
+  pub behind : drop lower new ≡ more ++ drop to now
+  pub front : take low new ≡ take low now
+
 -- the cells from a place on stand, filled, and those before it are left
 pub record FilledFrom (t : Task) (now : List Cell) (at to : ℕ) : Type 0 where
   pub before : t.stop ≤ t.low
@@ -128,8 +136,10 @@ module _ {t : Task} where
     commas-now start end commas within have = subst (λ cells. HaveCommas cells commas) (sym (same-part start end within)) have
 
     -- more cells that stand for those before
-    along-more : (new more : List Cell) (on lower n : ℕ) → t.from ≤ on → on ≤ at → t.low ≤ lower → lower + n ≡ to → length more ≡ n → length new ≡ length now → drop lower new ≡ more ++ drop to now → take t.low new ≡ take t.low now → filled t.given (slice_range t.old on at) ≡ more → FilledFrom t new on lower
-    along-more new more on lower n order up room is is_long same behind front next =
+    along-more : (new more : List Cell) (on lower : ℕ) → t.from ≤ on → on ≤ at → PutMore now new t.low lower to more → filled t.given (slice_range t.old on at) ≡ more → FilledFrom t new on lower
+    along-more new more on lower order up put next =
+        let room = put.room in
+        let is_long = put.is_long in
         let within = h.within in
         let meet = parts-meet t.old t.from on at order up (omega (arith, h.before, within, low-inside)) in
         record {
@@ -139,19 +149,24 @@ module _ {t : Task} where
           order = order;
           within = omega (arith, up, within);
           room = room;
-          long = omega (arith, length-append more h.done, is_long, h.long, is);
-          size = same ∙ h.size;
-          behind = behind ∙ ap (λ cells. more ++ cells) h.behind ∙ sym (append_assoc more h.done (drop t.last t.old));
+          long = omega (arith, length-append more h.done, is_long, h.long);
+          size = put.size ∙ h.size;
+          behind = put.behind ∙ ap (λ cells. more ++ cells) h.behind ∙ sym (append_assoc more h.done (drop t.last t.old));
           split = h.split
               ∙ ap (λ cells. filled t.given cells ++ h.done) meet
               ∙ ap (λ cells. cells ++ h.done) (filled-append t.given (slice_range t.old t.from on) (slice_range t.old on at) ∙ ap (λ cells. filled t.given (slice_range t.old t.from on) ++ cells) next)
               ∙ append_assoc (filled t.given (slice_range t.old t.from on)) more h.done;
-          front = front ∙ h.front;
+          front = put.front ∙ h.front;
         }
 
     -- a block is copied, whose last `r` cells are characters
-    pub block-run : (new : List Cell) (start lower r : ℕ) → start + 8 ≡ at → lower + 8 ≡ to → t.low ≤ lower → new ≡ copy_within now start (start + 8) lower → length new ≡ length now → r ≤ 8 → t.from + r ≤ at → All IsByte (take r (drop (at - r) new)) → FilledFrom t new (at - r) (to - r)
-    block-run new start lower r start_is lower_is room is same few order bytes =
+    pub block-run : (new : List Cell) (r : ℕ) → 8 ≤ at → t.low + 8 ≤ to → new ≡ copy_within now (at - 8) (at - 8 + 8) (to - 8) → length new ≡ length now → r ≤ 8 → t.from + r ≤ at → All IsByte (take r (drop (at - r) new)) → FilledFrom t new (at - r) (to - r)
+    block-run new r inside fits is same few order bytes =
+        let start = at - 8 in
+        let lower = to - 8 in
+        let start_is : start + 8 ≡ at = omega (arith, inside) in
+        let lower_is : lower + 8 ≡ to = omega (arith, fits) in
+        let room : t.low ≤ lower = omega (arith, fits) in
         let within = h.within in
         let apart : start + 8 ≤ lower = omega (arith, start_is, h.before, within, room) in
         let long = h.long in
@@ -171,7 +186,15 @@ module _ {t : Task} where
         ∙ ap (λ i. slice_range now (at - r) at ++ drop i now) lower_is
         ∙ ap (λ cells. cells ++ drop to now) (same-part (at - r) at (omega (arith, h.before, within))) in
         let size : length (slice_range t.old (at - r) at) ≡ r = omega (arith, end, length-between t.old (at - r) at (omega (arith, h.before, within, low-inside))) in
-        along-more new (slice_range t.old (at - r) at) (at - r) (to - r) r (omega (arith, order)) (omega arith) (omega (arith, few, room, lower_is)) (omega (arith, few, lower_is)) size same behind (copied-low now new start lower 8 apart reach is t.low room) (filled-no_comma_from t.given (slice_range t.old (at - r) at) (subst (All IsByte) source bytes))
+        along-more new (slice_range t.old (at - r) at) (at - r) (to - r) (omega (arith, order)) (omega arith)
+        (record {
+          room = omega (arith, few, room, lower_is);
+          is_long = omega (arith, few, lower_is, size);
+          size = same;
+          behind = behind;
+          front = copied-low now new start lower 8 apart reach is t.low room;
+        })
+        (filled-no_comma_from t.given (slice_range t.old (at - r) at) (subst (All IsByte) source bytes))
 
     module _ (on : ℕ) (next : on + 1 ≡ at) (order : t.from ≤ on) where
       last-cell : filled t.given (slice_range t.old on at) ≡ filling t.given (get_or t.old on Comma)
@@ -181,23 +204,31 @@ module _ {t : Task} where
           let is : slice_range t.old on at ≡ get_or t.old on Comma ∷ [] = ap (λ k. take k (drop on t.old)) one ∙ ap (take 1) (drop_more t.old on Comma (omega (arith, next, within, h.before, low-inside))) in
           ap (filled t.given) is ∙ append-nil (filling t.given (get_or t.old on Comma))
 
-      -- where the cells that fill the last one don't fit the whole doesn't
-      pub cell-full : (cells : List Cell) (n : ℕ) → length cells ≡ n → map untagged cells ≡ filling t.given (get_or t.old on Comma) → to < t.low + n → t.last < t.low + length (filled t.given (slice_range t.old t.from t.stop))
-      cell-full cells n size are full =
-          let within = h.within in
-          let meet = parts-meet t.old t.from on at order (omega (arith, next)) (omega (arith, h.before, within, low-inside)) in
-          let here = ap length h.split ∙ length-append (filled t.given (slice_range t.old t.from at)) h.done in
-          let split = ap (λ l. length (filled t.given l)) meet ∙ ap length (filled-append t.given (slice_range t.old t.from on) (slice_range t.old on at)) ∙ length-append (filled t.given (slice_range t.old t.from on)) (filled t.given (slice_range t.old on at)) in
-          let this : length (filled t.given (slice_range t.old on at)) ≡ n = ap length last-cell ∙ ap length (sym are) ∙ length-map cells untagged ∙ size in
-          omega (arith, full, here, split, this, h.long)
+      -- these cells fill it
+      module _ (cells : List Cell) (n : ℕ) (size : length cells ≡ n) (are : map untagged cells ≡ filling t.given (get_or t.old on Comma)) where
+        -- where the cells that fill the last one don't fit the whole doesn't
+        pub cell-full : to < t.low + n → t.last < t.low + length (filled t.given (slice_range t.old t.from t.stop))
+        cell-full full =
+            let within = h.within in
+            let meet = parts-meet t.old t.from on at order (omega (arith, next)) (omega (arith, h.before, within, low-inside)) in
+            let here = ap length h.split ∙ length-append (filled t.given (slice_range t.old t.from at)) h.done in
+            let split = ap (λ l. length (filled t.given l)) meet ∙ ap length (filled-append t.given (slice_range t.old t.from on) (slice_range t.old on at)) ∙ length-append (filled t.given (slice_range t.old t.from on)) (filled t.given (slice_range t.old on at)) in
+            let this : length (filled t.given (slice_range t.old on at)) ≡ n = ap length last-cell ∙ ap length (sym are) ∙ length-map cells untagged ∙ size in
+            omega (arith, full, here, split, this, h.long)
 
-      -- they are put
-      pub cell-put : (new cells : List Cell) (lower n : ℕ) → length cells ≡ n → map untagged cells ≡ filling t.given (get_or t.old on Comma) → t.low ≤ lower → lower + n ≡ to → length new ≡ length now → take lower new ≡ take lower now → drop lower new ≡ map untagged cells ++ drop (lower + n) now → FilledFrom t new on lower
-      cell-put new cells lower n size are room is same front behind =
-          along-more new (map untagged cells) on lower n order (omega (arith, next)) room is (length-map cells untagged ∙ size) same
-          (behind ∙ ap (λ i. map untagged cells ++ drop i now) is)
-          (sym (take-take t.low lower new room) ∙ ap (take t.low) front ∙ take-take t.low lower now room)
-          (last-cell ∙ sym are)
+        -- they are put
+        pub cell-put : (new : List Cell) (lower : ℕ) → t.low ≤ lower → lower + n ≡ to → length new ≡ length now → take lower new ≡ take lower now → drop lower new ≡ map untagged cells ++ drop (lower + n) now → FilledFrom t new on lower
+        cell-put new lower room is same front behind =
+            let long = length-map cells untagged ∙ size in
+            along-more new (map untagged cells) on lower order (omega (arith, next))
+            (record {
+              room = room;
+              is_long = omega (arith, long, is);
+              size = same;
+              behind = behind ∙ ap (λ i. map untagged cells ++ drop i now) is;
+              front = sym (take-take t.low lower new room) ∙ ap (take t.low) front ∙ take-take t.low lower now room;
+            })
+            (last-cell ∙ sym are)
 
     -- nothing is left
     pub along-end : at ≡ t.from → IsPut t.old now t.low t.last (filled t.given (slice_range t.old t.from t.stop)) (Some to)

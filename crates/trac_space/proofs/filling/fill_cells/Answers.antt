@@ -7,10 +7,9 @@ use Rattle.trac_space.proofs.filling.fill_cells.Goals.{After-characters_before-r
 -- a block is copied, whose last `r` cells are characters
 ran : (c : After-characters_before-run) → (r : ℕ) → r ≤ c.characters_before-run.result → c.args.from + r ≤ c.loop-at.at → FilledFrom (task c.args.cells.now c.args.from c.args.stop c.args.low c.args.to c.args.given.start c.args.given.len) c.copy_at_once.new.cells (c.loop-at.at - r) (c.loop-at.to - r)
 ran c r few order =
-    let start : c.loop-at.at - 8 + 8 ≡ c.loop-at.at = omega (arith, c.loop-at-test.true) in
-    let lower : c.loop-at.to - 8 + 8 ≡ c.loop-at.to = omega (arith, c.if-distance-ge-BLOCK.true, c.distance.ensures) in
-    let apart : c.args.low ≤ c.loop-at.to - 8 = omega (arith, lower, c.if-distance-ge-BLOCK.true, c.distance.ensures) in
-    block-run c.loop-at.invariant c.copy_at_once.new.cells (c.loop-at.at - 8) (c.loop-at.to - 8) r start lower apart c.copy_at_once.ensures.after c.copy_at_once.ensures.len (omega (arith, few, c.characters_before-run.ensures.few)) order (last-bytes c.copy_at_once.new.cells c.loop-at.at c.characters_before-run.result r few (omega (arith, c.characters_before-run.ensures.few, c.loop-at-test.true)) c.characters_before-run.ensures.bytes)
+    let inside : 8 ≤ c.loop-at.at = omega (arith, c.loop-at-test.true) in
+    let room : c.args.low + 8 ≤ c.loop-at.to = omega (arith, c.if-distance-ge-BLOCK.true, c.distance.ensures) in
+    block-run c.loop-at.invariant c.copy_at_once.new.cells r inside room c.copy_at_once.ensures.after c.copy_at_once.ensures.len (omega (arith, few, c.characters_before-run.ensures.few)) order (last-bytes c.copy_at_once.new.cells c.loop-at.at c.characters_before-run.result r few (omega (arith, c.characters_before-run.ensures.few, c.loop-at-test.true)) c.characters_before-run.ensures.bytes)
 
 pub loop-at-init : goal.loop-at-init
 loop-at-init c =
@@ -79,7 +78,7 @@ loop-at-preserved c =
     let at = goal.at.loop-at-preserved c in
     let k = at.After-characters_before-run in
     let i = some k (omega (arith, c.if-at-from.false)) in
-    cell-put i (c.loop-at.at - c.characters_before-run.result - 1) (omega (arith, c.if-at-from.false)) (omega (arith, c.if-at-from.false)) c.put_untagged.new.cells _ _ c.part_numbered-part.result.len (long at.After-part_numbered-part i.size) (are at.After-part_numbered-part k i) (omega (arith, c.if-part-to.false)) (omega (arith, c.if-part-to.false)) c.put_untagged.ensures.len c.put_untagged.ensures.front c.put_untagged.ensures.put
+    cell-put i (c.loop-at.at - c.characters_before-run.result - 1) (omega (arith, c.if-at-from.false)) (omega (arith, c.if-at-from.false)) _ c.part_numbered-part.result.len (long at.After-part_numbered-part i.size) (are at.After-part_numbered-part k i) c.put_untagged.new.cells _ (omega (arith, c.if-part-to.false)) (omega (arith, c.if-part-to.false)) c.put_untagged.ensures.len c.put_untagged.ensures.front c.put_untagged.ensures.put
 
 pub fill_each-requires : goal.fill_each-requires
 fill_each-requires c =

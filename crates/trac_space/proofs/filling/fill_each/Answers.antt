@@ -38,7 +38,7 @@ long c =
 pub loop-at-preserved : goal.loop-at-preserved
 loop-at-preserved c =
     let k = (goal.at.loop-at-preserved c).After-filling_of-filling in
-    cell-put c.loop-at.invariant (c.loop-at.at - 1) (omega (arith, c.loop-at-test.true)) (omega (arith, c.loop-at-test.true)) c.put_untagged.new.cells _ _ c.filling_of-filling.result.len (long k) (are k) (omega (arith, c.if-filling-to.false)) (omega (arith, c.if-filling-to.false)) c.put_untagged.ensures.len c.put_untagged.ensures.front c.put_untagged.ensures.put
+    cell-put c.loop-at.invariant (c.loop-at.at - 1) (omega (arith, c.loop-at-test.true)) (omega (arith, c.loop-at-test.true)) _ c.filling_of-filling.result.len (long k) (are k) c.put_untagged.new.cells _ (omega (arith, c.if-filling-to.false)) (omega (arith, c.if-filling-to.false)) c.put_untagged.ensures.len c.put_untagged.ensures.front c.put_untagged.ensures.put
 
 pub returns-then-filling-to : goal.returns-then-filling-to
 returns-then-filling-to c =
