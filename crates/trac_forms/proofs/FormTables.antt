@@ -3,7 +3,7 @@ use Rattle.trac_forms.proofs.Imports.{◌≡◌, ◌≢◌, ℕ, zero, suc, ◌+
 use Rattle.trac_forms.proofs.Imports.{take-take, length-take-le, length-set, length-remove, get_or-remove_below, get_or-remove_above, sum_by-cons, Text, Form, form_cells, cells, Cell, Comma, Head, flat_forms, name_at, form_at, start_of, hash, quarter, slots, cell_at, home_place, is_open, number_of}
 use Rattle.trac_forms.proofs.Imports.{home_in, start_in, buried, forward, earlier, started, IsReached, IsIndexBut, IsIndex, IsOpenFor, with_entry, Bool, take-set-le}
 use Rattle.trac_store.specs.Stored.{IsLocated}
-use Rattle.trac_store.proofs.TableChanges.{numbered, index-put, index-bury, index-begin, index-as, index-renamed, reached-within, head-same}
+use Rattle.trac_store.proofs.TableChanges.{Numbered, numbered, index-put, index-bury, index-begin, index-as, index-renamed, reached-within, head-same}
 use Rattle.trac_store.proofs.FlatLemmas.{length-flat}
 use Rattle.trac_store.proofs.IndexSearch.{name-set}
 
@@ -51,7 +51,7 @@ index-next table forms k s start located index overflow place =
     let within = located.within in
     let begins = located.start_is in
     let front = index-front table forms k (omega (arith, within)) index in
-    let put = index-put table k k s (k + 1) (k + 1) (name_at forms) (name_at forms) (start_of forms) (start_of forms) front (omega arith) (λ e. absurd (omega (arith, e))) (omega (arith, overflow))
+    let put = index-put table (record (numbered forms) { count = k }) (record (numbered forms) { count = k + 1 }) k s (k + 1) front (omega arith) (λ e. absurd (omega (arith, e))) (omega (arith, overflow))
     (λ j less there differs. (omega (arith, less, differs), refl, refl))
     (λ j less there other. (omega (arith, less), λ e. absurd (omega (arith, e, less))))
     (λ j less there differs is. open-head (cell_at table s) j place.1.free is)
@@ -70,7 +70,7 @@ module _ (table : List Cell) (n k : ℕ) (name : ℕ → Text) (start : ℕ → 
   index-buried =
       let e = index.all k within (λ e. absurd (omega (arith, e, within))) in
       let home : home_in table k ≡ e.0 = ap number_of e.1.1.home in
-      subst (λ s. IsIndexBut (set table s Comma) n k name start) (sym home) (index-bury table n k e.0 e.1.0 name start index within e.1.1)
+      subst (λ s. IsIndexBut (set table s Comma) n k name start) (sym home) (index-bury table (record { count = n; name = name; start = start }) k e.0 e.1.0 index within e.1.1)
 
 -- the table of the first forms without the last of them
 pub index-cut : (table : List Cell) (forms : List Form) (k : ℕ) → k < length forms → IsIndex table (take (k + 1) forms) → IsIndex (buried table k) (take k forms)
@@ -109,11 +109,14 @@ names_now forms k gap = λ j. if nat_lt j gap then name_at (remove forms k) j el
 abbrev pub starts_now : List Form → ℕ → ℕ → ℕ → ℕ
 starts_now forms k gap = λ j. if nat_lt j gap then start_of (remove forms k) j else start_of forms j
 
+abbrev numbered_now : List Form → ℕ → ℕ → Numbered
+numbered_now forms k gap = record { count = length forms; name = names_now forms k gap; start = starts_now forms k gap }
+
 module _ (forms : List Form) (k : ℕ) (within : k < length forms) where
   -- nothing has come forward yet
   pub index-gap : (table : List Cell) → IsIndexBut table (length forms) k (name_at forms) (start_of forms) → IsIndexBut table (length forms) k (names_now forms k k) (starts_now forms k k)
   index-gap table index =
-      index-as table (numbered forms) (record { count = length forms; name = names_now forms k k; start = starts_now forms k k }) k k index.overflow
+      index-as table (numbered forms) (numbered_now forms k k) k k index.overflow
       (λ j less there. (less, there, names j, starts j)) (λ j less there. (less, there)) index
     where
       names : (j : ℕ) → names_now forms k k j ≡ name_at forms j
@@ -151,7 +154,7 @@ module _ (forms : List Form) (k : ℕ) (within : k < length forms) where
       let b = if-below gap (gap + 1) (start_of (remove forms k) gap) (start_of forms gap) (omega arith) in
       omega (arith, b, cells_is, next-start table gap order inside index) in
       let reached = subst (λ t. IsReached table (hash t) s e.1.0) (sym name) entry.reached in
-      let put = index-put table (length forms) gap s (length forms) (gap + 1) (names_now forms k gap) (names_now forms k (gap + 1)) (starts_now forms k gap) (starts_now forms k (gap + 1)) index (omega (arith, inside)) (λ e. absurd (omega (arith, e))) index.overflow
+      let put = index-put table (numbered_now forms k gap) (numbered_now forms k (gap + 1)) gap s (gap + 1) index (omega (arith, inside)) (λ e. absurd (omega (arith, e))) index.overflow
       (λ j less there differs. (less, same_name gap j there differs, same_start gap j there differs))
       (λ j less there other. (less, λ f. other (ap (λ i. cell_at table (home_place table i)) f ∙ entry.home)))
       (λ j less there differs is. there (head-same j (gap + 1) (sym is ∙ entry.held)))
@@ -173,7 +176,7 @@ module _ (forms : List Form) (k : ℕ) (within : k < length forms) where
   pub index-removed : (table : List Cell) (gap : ℕ) → gap + 1 ≡ length forms → IsIndexBut table (length forms) gap (names_now forms k gap) (starts_now forms k gap) → IsIndex table (remove forms k)
   index-removed table gap all index =
       let size = length-remove forms k within in
-      index-as table (record { count = length forms; name = names_now forms k gap; start = starts_now forms k gap }) (numbered (remove forms k)) gap (length (remove forms k)) (omega (arith, size, index.overflow))
+      index-as table (numbered_now forms k gap) (numbered (remove forms k)) gap (length (remove forms k)) (omega (arith, size, index.overflow))
       (λ j less there. (
         omega (arith, size, less),
         λ e. absurd (omega (arith, e, all, size, less)),
@@ -213,7 +216,7 @@ module _ (k n less : ℕ) (name : ℕ → Text) (start : ℕ → ℕ) where
 
   pub index-earlier : (table : List Cell) (next : ℕ) → k < next → next < n → IsIndexBut table n n name (started k next less start) → IsIndexBut (earlier table next less) n n name (started k (next + 1) less start)
   index-earlier table next behind inside index =
-      index-begin table n next (start_in table next - less) name (started k next less start) (started k (next + 1) less start) index inside
+      index-begin table (record { count = n; name = name; start = started k next less start }) next (start_in table next - less) (started k (next + 1) less start) index inside
       (started-here next behind ∙ ap (λ b. b - less) (sym (start-there table next behind inside index)))
       (λ j within differs. started-other next j differs)
 

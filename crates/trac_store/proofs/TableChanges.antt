@@ -12,6 +12,15 @@ reached-within table number s after r = omega (arith, r.slot_is, r.within, slot-
 pub head-same : (a b : ℕ) → Head a ≡ Head b → a ≡ b
 head-same a b e = cc
 
+-- numbered forms: how many they are, the name of each, and where each begins
+pub record Numbered : Type 0 where
+  pub count : ℕ
+  pub name : ℕ → Text
+  pub start : ℕ → ℕ
+
+abbrev pub numbered : List Form → Numbered
+numbered forms = record { count = length forms; name = name_at forms; start = start_of forms }
+
 -- an entry of a changed table, at the places that it had before
 record IsEntryThen (table now : List Cell) (name : Text) (start k s after : ℕ) : Type 0 where
   reached : IsReached table (hash name) s after
@@ -90,20 +99,20 @@ module _ (table : List Cell) (s k start : ℕ) (s_in : s < slots table) (k_in : 
       ⊎_elim (λ e. ap (λ y. is_blank (cell_at (with_entry table s k start) y)) e ∙ ap is_blank entry-slot) (λ differs. ap is_blank (entry-other_slot x x_in differs) ∙ full) (cases_eq x s)
 
 -- an entry at the gap, in a slot that no other form has then; form k may leave its own slot for that
-module _ (table : List Cell) (n g s n2 g2 : ℕ) (name name2 : ℕ → Text) (start start2 : ℕ → ℕ) (index : IsIndexBut table n g name start) (g_in : g < n2) (apart : g ≢ g2) (fits : n2 ≤ quarter table) (olds : (k : ℕ) → k < n2 → k ≢ g2 → k ≢ g → (k < n) × (name2 k ≡ name k) × (start2 k ≡ start k)) (news : (k : ℕ) → k < n → k ≢ g → cell_at table (home_place table k) ≢ Head s → (k < n2) × (k ≢ g2)) (free : (k : ℕ) → k < n2 → k ≢ g2 → k ≢ g → cell_at table s ≢ Head k) (after : ℕ) (reached : IsReached table (hash (name2 g)) s after) where
+module _ (table : List Cell) (was next : Numbered) (g s g2 : ℕ) (index : IsIndexBut table was.count g was.name was.start) (g_in : g < next.count) (apart : g ≢ g2) (fits : next.count ≤ quarter table) (olds : (k : ℕ) → k < next.count → k ≢ g2 → k ≢ g → (k < was.count) × (next.name k ≡ was.name k) × (next.start k ≡ was.start k)) (news : (k : ℕ) → k < was.count → k ≢ g → cell_at table (home_place table k) ≢ Head s → (k < next.count) × (k ≢ g2)) (free : (k : ℕ) → k < next.count → k ≢ g2 → k ≢ g → cell_at table s ≢ Head k) (after : ℕ) (reached : IsReached table (hash (next.name g)) s after) where
   s_in : s < slots table
-  s_in = reached-within table (hash (name2 g)) s after reached
+  s_in = reached-within table (hash (next.name g)) s after reached
 
   g_fits : g < quarter table
   g_fits = omega (arith, g_in, fits)
 
   abbrev now : List Cell
-  now = with_entry table s g (start2 g)
+  now = with_entry table s g (next.start g)
 
-  new_all : (k : ℕ) → k < n2 → k ≢ g2 → HasEntryThen table now (name2 k) (start2 k) k
+  new_all : (k : ℕ) → k < next.count → k ≢ g2 → HasEntryThen table now (next.name k) (next.start k) k
   new_all k within there =
       ⊎_elim
-      (λ e. subst (λ j. HasEntryThen table now (name2 j) (start2 j) j) (sym e) (s, (after, record { reached = reached; held = entry-slot table s g (start2 g) s_in g_fits; begins = entry-start table s g (start2 g) s_in g_fits; home = entry-home table s g (start2 g) s_in g_fits })))
+      (λ e. subst (λ j. HasEntryThen table now (next.name j) (next.start j) j) (sym e) (s, (after, record { reached = reached; held = entry-slot table s g (next.start g) s_in g_fits; begins = entry-start table s g (next.start g) s_in g_fits; home = entry-home table s g (next.start g) s_in g_fits })))
       (λ differs.
       let o = olds k within there differs in
       let old = index.all k o.0 differs in
@@ -115,34 +124,34 @@ module _ (table : List Cell) (n g s n2 g2 : ℕ) (name name2 : ℕ → Text) (st
           old.1.0,
           record {
             reached = subst (λ t. IsReached table (hash t) old.0 old.1.0) (sym o.1) e.reached;
-            held = entry-other_slot table s g (start2 g) s_in g_fits old.0 (reached-within table (hash (name k)) old.0 old.1.0 e.reached) apart2 ∙ e.held;
-            begins = entry-other_start table s g (start2 g) s_in g_fits k k_fits differs ∙ e.begins ∙ ap (λ b. Head b) (sym o.2);
-            home = entry-other_home table s g (start2 g) s_in g_fits k k_fits differs ∙ e.home;
+            held = entry-other_slot table s g (next.start g) s_in g_fits old.0 (reached-within table (hash (was.name k)) old.0 old.1.0 e.reached) apart2 ∙ e.held;
+            begins = entry-other_start table s g (next.start g) s_in g_fits k k_fits differs ∙ e.begins ∙ ap (λ b. Head b) (sym o.2);
+            home = entry-other_home table s g (next.start g) s_in g_fits k k_fits differs ∙ e.home;
           },
         ),
       ))
       (cases_eq k g)
 
-  new_only : (x k : ℕ) → x < slots table → cell_at now x ≡ Head k → (k < n2) × (k ≢ g2) × (cell_at now (home_place table k) ≡ Head x)
+  new_only : (x k : ℕ) → x < slots table → cell_at now x ≡ Head k → (k < next.count) × (k ≢ g2) × (cell_at now (home_place table k) ≡ Head x)
   new_only x k x_in is =
       ⊎_elim
       (λ e.
-      let same : k ≡ g = head-same k g (sym is ∙ ap (cell_at now) e ∙ entry-slot table s g (start2 g) s_in g_fits) in
-      subst (λ j. (j < n2) × (j ≢ g2) × (cell_at now (home_place table j) ≡ Head x)) (sym same) (g_in, apart, entry-home table s g (start2 g) s_in g_fits ∙ ap (λ n. Head n) (sym e)))
+      let same : k ≡ g = head-same k g (sym is ∙ ap (cell_at now) e ∙ entry-slot table s g (next.start g) s_in g_fits) in
+      subst (λ j. (j < next.count) × (j ≢ g2) × (cell_at now (home_place table j) ≡ Head x)) (sym same) (g_in, apart, entry-home table s g (next.start g) s_in g_fits ∙ ap (λ n. Head n) (sym e)))
       (λ differs.
-      let old = index.only x k x_in (sym (entry-other_slot table s g (start2 g) s_in g_fits x x_in differs) ∙ is) in
+      let old = index.only x k x_in (sym (entry-other_slot table s g (next.start g) s_in g_fits x x_in differs) ∙ is) in
       let more = news k old.within old.there (λ e. differs (head-same x s (sym old.home ∙ e))) in
-      (more.0, more.1, entry-other_home table s g (start2 g) s_in g_fits k (omega (arith, more.0, fits)) old.there ∙ old.home))
+      (more.0, more.1, entry-other_home table s g (next.start g) s_in g_fits k (omega (arith, more.0, fits)) old.there ∙ old.home))
       (cases_eq x s)
 
-  pub index-put : IsIndexBut (with_entry table s g (start2 g)) n2 g2 name2 start2
+  pub index-put : IsIndexBut (with_entry table s g (next.start g)) next.count g2 next.name next.start
   index-put =
-      index-now table now (long table s g (start2 g) s_in g_fits) (entry-full table s g (start2 g) s_in g_fits) n2 g2 name2 start2 fits new_all new_only
+      index-now table now (long table s g (next.start g) s_in g_fits) (entry-full table s g (next.start g) s_in g_fits) next.count g2 next.name next.start fits new_all new_only
 
 -- the slot of a form is left to none
-module _ (table : List Cell) (n k s after : ℕ) (name : ℕ → Text) (start : ℕ → ℕ) (index : IsIndexBut table n n name start) (within : k < n) (entry : IsEntry table (name k) (start k) k s after) where
+module _ (table : List Cell) (was : Numbered) (k s after : ℕ) (index : IsIndexBut table was.count was.count was.name was.start) (within : k < was.count) (entry : IsEntry table (was.name k) (was.start k) k s after) where
   slot_in : s < slots table
-  slot_in = reached-within table (hash (name k)) s after entry.reached
+  slot_in = reached-within table (hash (was.name k)) s after entry.reached
 
   bury_other : (x : ℕ) → x ≢ s → cell_at (set table s Comma) x ≡ cell_at table x
   bury_other x differs = get_or-set_other table s x Comma (Byte 0) differs
@@ -157,9 +166,9 @@ module _ (table : List Cell) (n k s after : ℕ) (name : ℕ → Text) (start : 
   comma-head : (j : ℕ) → Comma ≡ Head j → ⊥
   comma-head j e = absurd cc
 
-  pub index-bury : IsIndexBut (set table s Comma) n k name start
+  pub index-bury : IsIndexBut (set table s Comma) was.count k was.name was.start
   index-bury =
-      index-now table _ (length-set table s Comma) bury_full n k name start index.overflow
+      index-now table _ (length-set table s Comma) bury_full was.count k was.name was.start index.overflow
       (λ j less differs.
       let old = index.all j less (λ e. absurd (omega (arith, e, less))) in
       let e = old.1.1 in
@@ -186,7 +195,7 @@ module _ (table : List Cell) (n k s after : ℕ) (name : ℕ → Text) (start : 
       (cases_eq x s))
 
 -- a form begins elsewhere
-module _ (table : List Cell) (n k begin : ℕ) (name : ℕ → Text) (start start2 : ℕ → ℕ) (index : IsIndexBut table n n name start) (within : k < n) (here : start2 k ≡ begin) (others : (j : ℕ) → j < n → j ≢ k → start2 j ≡ start j) where
+module _ (table : List Cell) (was : Numbered) (k begin : ℕ) (start : ℕ → ℕ) (index : IsIndexBut table was.count was.count was.name was.start) (within : k < was.count) (here : start k ≡ begin) (others : (j : ℕ) → j < was.count → j ≢ k → start j ≡ was.start j) where
   begin_other : (x : ℕ) → x ≢ start_place table k → cell_at (set table (start_place table k) (Head begin)) x ≡ cell_at table x
   begin_other x differs = get_or-set_other table (start_place table k) x (Head begin) (Byte 0) differs
 
@@ -199,20 +208,20 @@ module _ (table : List Cell) (n k begin : ℕ) (name : ℕ → Text) (start star
   begin_home : (j : ℕ) → cell_at (set table (start_place table k) (Head begin)) (home_place table j) ≡ cell_at table (home_place table j)
   begin_home j = begin_other (home_place table j) (λ e. absurd (omega (arith, e, within, index.overflow)))
 
-  begin_begins : (j : ℕ) → j < n → cell_at table (start_place table j) ≡ Head (start j) → cell_at (set table (start_place table k) (Head begin)) (start_place table j) ≡ Head (start2 j)
+  begin_begins : (j : ℕ) → j < was.count → cell_at table (start_place table j) ≡ Head (was.start j) → cell_at (set table (start_place table k) (Head begin)) (start_place table j) ≡ Head (start j)
   begin_begins j less begins =
       ⊎_elim
-      (λ e. ap (λ i. cell_at (set table (start_place table k) (Head begin)) (start_place table i)) e ∙ begin_same ∙ ap (λ n. Head n) (sym here ∙ ap start2 (sym e)))
+      (λ e. ap (λ i. cell_at (set table (start_place table k) (Head begin)) (start_place table i)) e ∙ begin_same ∙ ap (λ n. Head n) (sym here ∙ ap start (sym e)))
       (λ differs. begin_other (start_place table j) (λ e. differs (omega (arith, e))) ∙ begins ∙ ap (λ n. Head n) (sym (others j less differs)))
       (cases_eq j k)
 
-  pub index-begin : IsIndexBut (set table (start_place table k) (Head begin)) n n name start2
+  pub index-begin : IsIndexBut (set table (start_place table k) (Head begin)) was.count was.count was.name start
   index-begin =
-      index-now table _ (length-set table (start_place table k) (Head begin)) begin_full n n name start2 index.overflow
+      index-now table _ (length-set table (start_place table k) (Head begin)) begin_full was.count was.count was.name start index.overflow
       (λ j less there.
       let old = index.all j less there in
       let e = old.1.1 in
-      let s_in = reached-within table (hash (name j)) old.0 old.1.0 e.reached in (
+      let s_in = reached-within table (hash (was.name j)) old.0 old.1.0 e.reached in (
         old.0,
         (
           old.1.0,
@@ -227,15 +236,6 @@ module _ (table : List Cell) (n k begin : ℕ) (name : ℕ → Text) (start star
       (λ x j x_in is.
       let old = index.only x j x_in (sym (begin_other x (λ e. absurd (omega (arith, e, x_in)))) ∙ is) in
       (old.within, old.there, begin_home j ∙ old.home))
-
--- numbered forms: how many they are, the name of each, and where each begins
-pub record Numbered : Type 0 where
-  pub count : ℕ
-  pub name : ℕ → Text
-  pub start : ℕ → ℕ
-
-abbrev pub numbered : List Form → Numbered
-numbered forms = record { count = length forms; name = name_at forms; start = start_of forms }
 
 -- the same forms, under other words; form g was left out, and form g2 is
 pub index-as : (table : List Cell) (was now : Numbered) (g g2 : ℕ) → now.count ≤ quarter table → ((k : ℕ) → k < now.count → k ≢ g2 → (k < was.count) × (k ≢ g) × (now.name k ≡ was.name k) × (now.start k ≡ was.start k)) → ((k : ℕ) → k < was.count → k ≢ g → (k < now.count) × (k ≢ g2)) → IsIndexBut table was.count g was.name was.start → IsIndexBut table now.count g2 now.name now.start
