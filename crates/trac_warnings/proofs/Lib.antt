@@ -11,3 +11,4 @@ pub mod Looked
 pub mod Seen
 pub mod Signs
 pub mod Surplus
+pub mod Rows
