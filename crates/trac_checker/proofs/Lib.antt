@@ -1,4 +1,6 @@
 pub mod Found
 mod Named
 pub mod Placed
+pub mod Rows
+pub mod WatchedRows
 pub mod Watching

@@ -1,13 +1,14 @@
 //! A run that is watched from its first step to its last.
-ghost use Rattle.std.specs.Prelude.{◌≡◌, ◌++◌, ◌+◌, ◌-◌, ◌^◌, ◌<◌, ◌≤◌, IfOk, OnOk, length, map, reverse, take};
+ghost use Rattle.std.specs.Prelude.{◌≡◌, ◌++◌, ◌+◌, ◌-◌, ◌^◌, ◌<◌, ◌≤◌, IfOk, None, OnOk, [], length, map, reverse, take};
 ghost use Rattle.std.specs.List.{flat_map};
-ghost use Rattle.trac_core.specs.Machine.{reported_input_failures};
+ghost use Rattle.trac_core.specs.Machine.{KeepsLimits, reported_input_failures};
 ghost use Rattle.trac_events.specs.Places.{behind_text, first_place};
 ghost use Rattle.trac_views.specs.CallLines.{is_fault};
 ghost use Rattle.trac_checker.specs.Warned.{causes_with, fault_end, form_named, found_of, names_of};
 ghost use Rattle.trac_checker.specs.Warned.{summary_text, unexplained, warning_line, warning_text};
 ghost use Rattle.trac_warnings.specs.Explained.{no_cause};
 ghost use Rattle.trac_checker.specs.FoundSoFar.{found_in, found_in_script, with_all, with_fault, with_names};
+ghost use Rattle.trac_checker.specs.Rows.{PassesRow};
 ghost use Rattle.trac_checker.specs.WatchedRuns.{WatchesRun};
 ghost use Rattle.trac_warnings.specs.Watched.{KeepsRun, said};
 
@@ -53,6 +54,7 @@ pub fn watched<A: Allocator + Copy, I: Source>(
     let mut watch = Watch::new(alloc);
     let mut findings = of_script(alloc, input)?;
     loop {
+        pass_row(&mut machine, &mut watch, steps)?;
         let before = watch.look(&machine, input)?;
         let fate = machine.step(source, &mut null_sink);
         watch.judge_step(&before, &machine, input)?;
@@ -72,6 +74,27 @@ pub fn watched<A: Allocator + Copy, I: Source>(
             });
         }
     }
+}
+
+// Makes the steps up to the next one at which something may be suspicious, at once, and lets the watch follow them.
+// The machine may make `steps` steps in all.
+fn pass_row<A: Allocator + Copy>(
+    machine: &mut Machine,
+    watch: &mut Watch<A>,
+    steps: u64,
+) -> Result<(), AllocError>
+    requires going { machine.old.fate ≡ None }
+    requires limits { KeepsLimits machine.old }
+    requires allowance { machine.old.allowance ≡ steps }
+    ensures passes { OnOk result (PassesRow machine.old machine.new watch.old watch.new) }
+    ensures limits { KeepsLimits machine.new }
+    ensures room { machine.new.room ≡ machine.old.room }
+    ensures allowance { machine.new.allowance ≡ machine.old.allowance }
+{
+    let count = watch.follow_row(machine, steps - machine.steps())?;
+    let _neutral = machine.neutral();
+    machine.advance(count);
+    Ok(())
 }
 
 // What is suspicious in how a script is written.
@@ -140,6 +163,7 @@ fn keep_warnings<A: Allocator + Copy>(
     findings: &mut Findings<A>,
 ) -> Result<(), AllocError>
     ensures stays { KeepsRun watch.old watch.new }
+    ensures none { OnOk result (watch.new.warnings.items ≡ []) }
     ensures found { OnOk result (found_in findings.new ≡
         with_all (reverse (map said watch.old.warnings.items)) (found_in findings.old)) }
 {

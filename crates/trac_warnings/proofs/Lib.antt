@@ -12,3 +12,4 @@ pub mod Looked
 pub mod Seen
 pub mod Signs
 pub mod Surplus
+pub mod Rows

@@ -17,3 +17,4 @@ pub mod Watched
 pub mod Looked
 pub mod Misspelled
 pub mod StepWarnings
+pub mod Rows

@@ -26,6 +26,7 @@ mod calls;
 mod ends;
 mod faults;
 mod names;
+mod rows;
 mod script;
 
 /// A string that was read and is being scanned.

@@ -6,7 +6,9 @@ ghost use Rattle.trac_warnings.specs.Counted.{counts_behind_call, counts_of};
 ghost use Rattle.trac_warnings.specs.Looked.{Looks, LooksAtEnd, LooksAtMark, around_of, begin_of};
 ghost use Rattle.trac_warnings.specs.Looked.{is_inside, is_stray, place_of};
 ghost use Rattle.trac_warnings.specs.Looked.{stray_warnings};
+ghost use Rattle.trac_space.specs.Texts.{text_of_cells};
 ghost use Rattle.trac_warnings.specs.Performed.{Warns, function_of, has_odd_operand};
+ghost use Rattle.trac_warnings.specs.Rows.{argument_origin};
 ghost use Rattle.trac_warnings.specs.StepWarnings.{drop_warnings, is_arithmetic, is_null, lowered};
 ghost use Rattle.trac_warnings.specs.StepWarnings.{open_warnings, result_warnings, without_last};
 ghost use Rattle.trac_warnings.specs.Watched.{Kept, KeepsPlaces, KeepsRun, said};
@@ -320,7 +322,9 @@ pub(super) fn places_of(commas: &[Origin], given: usize) -> &[Origin]
 
 // Where an argument was written, by the comma before it and what stands behind that: what is protected
 // begins behind its parenthesis.
-pub(super) fn argument_origin(comma: Origin, active: &[Cell]) -> Origin {
+pub(super) fn argument_origin(comma: Origin, active: &[Cell]) -> Origin
+    ensures { result ≡ argument_origin comma (text_of_cells active.now) }
+{
     match active {
         [first, ..] if character_of(first) == b'(' => comma.behind(2),
         _ => comma.behind(1),
