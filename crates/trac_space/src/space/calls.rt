@@ -69,17 +69,20 @@ impl<'a> Space<'a> {
         count_commas(&self.cells[from..to]) + 1
     }
 
-    /// The cells of argument `k`, from 0, of the call from `call` up to `end`. None if the call has no such
-    /// argument.
-    pub fn argument(&self, call: u32, end: u32, k: u32) -> Option<Part>
+    /// Where argument `k`, from 0, of the call from `call` up to `end` begins and ends. None if the call
+    /// has no such argument.
+    pub fn argument(&self, call: u32, end: u32, k: u32) -> Option<(u32, u32)>
         requires { IsCallUpTo self.now.neutral call end }
         ensures { MatchOption result
             (arguments self.now.neutral call end ≤ k)
-            (λ part. IsArgument self.now.neutral call end k part.from part.to) }
+            (λ place. IsArgument self.now.neutral call end k place.0 place.1) }
     {
         let start = self.store as usize;
         let stop = (self.store + self.neutral) as usize;
-        argument_in(&self.cells[start..stop], call, end, k)
+        match argument_in(&self.cells[start..stop], call, end, k) {
+            Some(part) => Some((part.from, part.to)),
+            None => None,
+        }
     }
 }
 
