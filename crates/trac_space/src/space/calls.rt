@@ -78,7 +78,10 @@ impl<'a> Space<'a> {
     {
         let start = self.store as usize;
         let stop = (self.store + self.neutral) as usize;
-        argument_in(&self.cells[start..stop], call, end, k)
+        match argument_in(&self.cells[start..stop], call, end, k) {
+            Some(part) => Some((part.from, part.to)),
+            None => None,
+        }
     }
 }
 
