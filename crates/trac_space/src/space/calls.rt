@@ -9,6 +9,7 @@ ghost use Rattle.trac_space.specs.Arguments.{IsCallUpTo, arguments, IsArgument};
 
 use super::Space;
 use crate::cell::{Cell, frame_link, is_comma, mode};
+use crate::part::Part;
 use trac_language::Mode;
 
 impl<'a> Space<'a> {
@@ -146,25 +147,29 @@ fn count_commas(cells: &[Cell]) -> u32
     cells.iter().filter(|cell| is_comma(*cell)).count() as u32
 }
 
-// Where argument `k`, from 0, of the call from `call` up to `end` begins and ends. None if the call has no
-// such argument.
-fn argument_in(neutral: &[Cell], call: u32, end: u32, k: u32) -> Option<(u32, u32)>
+// The cells of argument `k`, from 0, of the call from `call` up to `end`. None if the call has no such
+// argument.
+fn argument_in(neutral: &[Cell], call: u32, end: u32, k: u32) -> Option<Part>
     requires order { call < end }
     requires within { end ≤ length neutral.now }
     ensures { MatchOption result
         (arguments neutral.now call end ≤ k)
-        (λ place. IsArgument neutral.now call end k place.0 place.1) }
+        (λ part. IsArgument neutral.now call end k part.from part.to) }
 {
     let mut number = 0;
     let mut from = call + 1;
     for to in call + 1..end {
         if is_comma(&neutral[to as usize]) {
             if number == k {
-                return Some((from, to));
+                return Some(Part { from, to });
             }
             number += 1;
             from = to + 1;
         }
     }
-    if number == k { Some((from, end)) } else { None }
+    if number == k {
+        Some(Part { from, to: end })
+    } else {
+        None
+    }
 }
