@@ -1,5 +1,5 @@
 -- Steps that need no device, one after the other.
-use Rattle.trac_core.proofs.Imports.{◌≡◌, ℕ, zero, suc, ◌+◌, ◌<◌, ◌≤◌, max, Option, Some, None, refl, sym, ap, ◌∙◌, subst, arith, ◌⊎◌, ⊎_elim, inl, inr, min, cases_lt, [], cells, scene, Tried, Function, Fate, Halted, InputEnded, Workspace, Steps, InputFailed, OutputFailed, Memory, size, Contents, used, IsSound, memory_of, MachineState, counted, Passes, PassesTimes, peak_after, passed, KeepsFormsAndMeta, NoneFailed, ◌≢◌, stops_at, is_unknown, performed_call, turning, Bool, false, StepsAlone, GoesAlone, StopsAlone, Advanced, Advances, advanced_to, Standing, standing, PerformedFor, PerformedAlone, GoesBy, StepsBy, StopsBy, Driven, needs_device, true, Text, Stream}
+use Rattle.trac_core.proofs.Imports.{◌≡◌, ℕ, zero, suc, ◌+◌, ◌<◌, ◌≤◌, max, Option, Some, None, refl, sym, ap, ◌∙◌, subst, arith, ◌⊎◌, ⊎_elim, inl, inr, min, cases_lt, [], cells, scene, Tried, Function, Fate, Halted, Memory, size, used, IsSound, memory_of, MachineState, counted, Passes, PassesTimes, peak_after, passed, KeepsFormsAndMeta, NoneFailed, ◌≢◌, stops_at, is_unknown, performed_call, turning, Bool, false, StepsAlone, GoesAlone, StopsAlone, Advanced, Advances, advanced_to, Stage, Standing, standing, PerformedFor, PerformedAlone, GoesBy, StepsBy, StopsBy, Driven, needs_device, true, Text, Stream}
 use Rattle.trac_functions.proofs.FlatLemmas.{size-used}
 use Rattle.trac_core.specs.declared.machine.Counters.{Counters}
 use Rattle.trac_core.specs.declared.machine.advancing.Advance.{Advance}
@@ -60,113 +60,168 @@ module _ {I O : Type 0} (performed : Standing I O → Option Fate → Standing I
 pub counted-memory : (m : MachineState) (after : Memory) (need : ℕ) (fate : Option Fate) → (counted m after need fate).memory ≡ after
 counted-memory m after need None = refl
 counted-memory m after need (Some Halted) = refl
-counted-memory m after need (Some InputEnded) = refl
-counted-memory m after need (Some Workspace) = refl
-counted-memory m after need (Some Steps) = refl
-counted-memory m after need (Some InputFailed) = refl
-counted-memory m after need (Some OutputFailed) = refl
+counted-memory m after need (Some _) = refl
 
 counted-parts : (m : MachineState) (after : Memory) (need : ℕ) (fate : Fate) → counted m after need (Some fate) ≡ record { memory = after; room = m.room; allowance = m.allowance; steps = (counted m after need (Some fate)).steps; peak = (counted m after need (Some fate)).peak; fate = Some fate; stops = m.stops }
 counted-parts m after need Halted = refl
-counted-parts m after need InputEnded = refl
-counted-parts m after need Workspace = refl
-counted-parts m after need Steps = refl
-counted-parts m after need InputFailed = refl
-counted-parts m after need OutputFailed = refl
-
-module _ {I O : Type 0} (performed : Standing I O → Option Fate → Standing I O → Type 0) (start : Standing I O) (stops : Bool) (w new : Contents) (meta : ℕ) (at : Counters) (k peak : ℕ) where
-  -- steps that perform no call
-  pub drive-run : (source : I) (sink : O) (done need top all : ℕ) → new.room ≡ w.room → IsSound w → at.steps + (k + done) ≤ at.allowance → 0 < done → Advances done w new → IsNeed need (used w) peak → top ≡ max peak need → all ≡ k + done → GoesBy performed k start (standing (turning stops w meta (counters_after at k peak)) source sink) → GoesBy performed all start (standing (turning stops new meta (counters_after at all top)) source sink)
-  drive-run source sink done need top all stays sound within some passes known is all_is goes =
-      let m = turning stops w meta (counters_after at k peak) in
-      let target = memory_of meta new in
-      let later = goes-passing performed start source sink done k m target refl (omega (arith, size-used meta w, sound.fits)) (omega arith) (passes meta) goes in
-      let steps : at.steps + k + done ≡ at.steps + (k + done) = omega arith in
-      let peaks : peak_after done (size (memory_of meta w)) peak ≡ top = ap (λ n. peak_after done n peak) (size-used meta w) ∙ peak-some done (used w) need peak some known ∙ sym is in
-      let same : passed done target m ≡ turning stops new meta (counters_after at (k + done) top) = λ i. record { memory = target; room = sym stays i; allowance = at.allowance; steps = steps i; peak = peaks i; fate = None; stops = stops } in
-      subst (λ j. GoesBy performed j start (standing (turning stops new meta (counters_after at j top)) source sink)) (sym all_is)
-      (subst (λ m. GoesBy performed (k + done) start (standing m source sink)) same later)
-
-  -- one step more
-  pub drive-next : (after need top all : ℕ) (source source_after : I) (sink sink_after : O) → new.room ≡ w.room → StepsBy performed (standing (turning stops w meta (counters_after at k peak)) source sink) (standing (counted (turning stops w meta (counters_after at k peak)) (memory_of after new) need None) source_after sink_after) → top ≡ max peak need → all ≡ suc k → GoesBy performed k start (standing (turning stops w meta (counters_after at k peak)) source sink) → GoesBy performed all start (standing (turning stops new after (counters_after at all top)) source_after sink_after)
-  drive-next after need top all source source_after sink sink_after stays step is all_is goes =
-      let m = turning stops w meta (counters_after at k peak) in
-      let target = memory_of after new in
-      let next = counted m target need None in
-      let steps : at.steps + k + 1 ≡ at.steps + suc k = omega arith in
-      let same : next ≡ turning stops new after (counters_after at (suc k) top) = λ i. record { memory = target; room = sym stays i; allowance = at.allowance; steps = steps i; peak = sym is i; fate = None; stops = stops } in
-      let later : GoesBy performed (suc k) start (standing next source_after sink_after) = (standing m source sink, (goes, step)) in
-      subst (λ j. GoesBy performed j start (standing (turning stops new after (counters_after at j top)) source_after sink_after)) (sym all_is)
-      (subst (λ m. GoesBy performed (suc k) start (standing m source_after sink_after)) same later)
-
-  -- a step that performs a call, or loads the idling procedure
-  pub drive-step : (after need top all : ℕ) (source source_after : I) (sink sink_after : O) → new.room ≡ w.room → at.steps + k < at.allowance → PerformedFor performed None need w meta source sink new after source_after sink_after → top ≡ max peak need → all ≡ suc k → GoesBy performed k start (standing (turning stops w meta (counters_after at k peak)) source sink) → GoesBy performed all start (standing (turning stops new after (counters_after at all top)) source_after sink_after)
-  drive-step after need top all source source_after sink sink_after stays allowed done is all_is goes =
-      let m = turning stops w meta (counters_after at k peak) in
-      drive-next after need top all source source_after sink sink_after stays (inr (record { room = refl; allowance = refl; stops = refl }, done m refl refl allowed)) is all_is goes
-
-  -- no step more is done
-  pub drive-stays : (declines : Memory → Type 0) (most all no_comma_from after : ℕ) (next : Option Function) (to : Advance) (source source_after : I) (sink sink_after : O) → new ≡ w → after ≡ meta → source_after ≡ source → sink_after ≡ sink → to ≡ record { progress = record { done = all; next = next }; no_comma_from = no_comma_from; steps = at.steps + all; peak = peak; fate = None } → all ≡ k → (k ≡ most) ⊎ ((at.steps + k ≡ at.allowance) ⊎ declines (memory_of meta w)) → GoesBy performed k start (standing (turning stops w meta (counters_after at k peak)) source sink) → Driven performed declines most to.progress.done start (standing (advanced_to stops new after at to) source_after sink_after)
-  drive-stays declines most all no_comma_from after next to source source_after sink sink_after same meta_is source_is sink_is is all_is why goes =
-      let m = turning stops w meta (counters_after at k peak) in
-      let told : Advance = record { progress = record { done = k; next = next }; no_comma_from = no_comma_from; steps = at.steps + k; peak = peak; fate = None } in
-      let to_is : to ≡ told = is ∙ ap (λ n. record { progress = record { done = n; next = next }; no_comma_from = no_comma_from; steps = at.steps + n; peak = peak; fate = None }) all_is in
-      let whole : Driven performed declines most told.progress.done start (standing (advanced_to stops w meta at told) source sink) = (standing m source sink, (goes, (refl, why))) in
-      let here : standing (advanced_to stops w meta at told) source sink ≡ standing (advanced_to stops new after at told) source_after sink_after = λ i. standing (advanced_to stops (sym same i) (sym meta_is i) at told) (sym source_is i) (sym sink_is i) in
-      subst (λ (to : Advance). Driven performed declines most to.progress.done start (standing (advanced_to stops new after at to) source_after sink_after)) (sym to_is)
-      (subst (Driven performed declines most told.progress.done start) here whole)
-
-  -- a step ends the run
-  pub drive-ends : (declines : Memory → Type 0) (most after need no_comma_from : ℕ) (fate : Fate) (to : Advance) (source source_after : I) (sink sink_after : O) → new.room ≡ w.room → at.steps + k < at.allowance → k < most → PerformedFor performed (Some fate) need w meta source sink new after source_after sink_after → to ≡ record { progress = record { done = k; next = None }; no_comma_from = no_comma_from; steps = (counted (turning stops w meta (counters_after at k peak)) (memory_of after new) need (Some fate)).steps; peak = (counted (turning stops w meta (counters_after at k peak)) (memory_of after new) need (Some fate)).peak; fate = Some fate } → GoesBy performed k start (standing (turning stops w meta (counters_after at k peak)) source sink) → Driven performed declines most to.progress.done start (standing (advanced_to stops new after at to) source_after sink_after)
-  drive-ends declines most after need no_comma_from fate to source source_after sink sink_after stays allowed few done is goes =
-      let m = turning stops w meta (counters_after at k peak) in
-      let last = counted m (memory_of after new) need (Some fate) in
-      let told : Advance = record { progress = record { done = k; next = None }; no_comma_from = no_comma_from; steps = last.steps; peak = last.peak; fate = Some fate } in
-      let same : last ≡ advanced_to stops new after at told = counted-parts m (memory_of after new) need fate ∙ (λ i. record (advanced_to stops new after at told) { room = sym stays i }) in
-      let ends = subst (λ last. performed (standing m source sink) (Some fate) (standing last source_after sink_after)) same (done m refl refl allowed) in
-      let whole : Driven performed declines most told.progress.done start (standing (advanced_to stops new after at told) source_after sink_after) = (standing m source sink, (goes, (few, ends))) in
-      subst (λ (to : Advance). Driven performed declines most to.progress.done start (standing (advanced_to stops new after at to) source_after sink_after)) (sym is) whole
-
-module _ {I O : Type 0} (performed : Standing I O → Option Fate → Standing I O → Type 0) (start : Standing I O) (stops : Bool) (w new : Contents) (meta : ℕ) (at : Counters) (k peak : ℕ) where
-  -- the idling procedure is loaded, and its calls are opened
-  pub drive-idling : (source : I) (sink : O) (need top all : ℕ) → IsSound w → w.active ≡ [] → cells w.forms + 11 ≤ w.room → new ≡ idling_begun w → at.steps + (k + 8) ≤ at.allowance → need ≡ cells w.forms + 11 → top ≡ max peak need → all ≡ k + 8 → GoesBy performed k start (standing (turning stops w meta (counters_after at k peak)) source sink) → GoesBy performed all start (standing (turning stops new meta (counters_after at all top)) source sink)
-  drive-idling source sink need top all sound none fits is within need_is top_is all_is goes =
-      let m = turning stops w meta (counters_after at k peak) in
-      let middle = idling_loaded w in
-      let loads = scans-idling w none in
-      let allowed : at.steps + k < at.allowance = omega arith in
-      let loading : StepsAlone m (counted m (memory_of meta middle) need None) = record {
-        alone = unperformed (memory_of meta w) (uncalled (memory_of meta w) (loads.no_call meta));
-        unasked = uncalled-unasked stops (memory_of meta w) (loads.no_call meta);
-        goes = λ source written. subst (λ n. Tried (scene w meta source written) None n (scene middle meta source written)) (sym need_is)
-            (tried-scanned None w middle (cells w.forms + 11) loads fits meta source written) m refl refl allowed;
-        going = refl;
-        settings = record { room = refl; allowance = refl; stops = refl };
-      } in
-      let loaded = drive-next performed start stops w middle meta at k peak meta need top (suc k) source source sink sink refl (inl (loading, refl)) top_is refl goes in
-      let begun = drive-run performed start stops middle (idling_begun w) meta at (suc k) top source sink 7 need top all refl (idling-sound w sound fits) (omega arith) (omega arith) (idling-advances w) (inl (omega arith)) (omega arith) (omega arith) loaded in
-      subst (λ (w : Contents). GoesBy performed all start (standing (turning stops w meta (counters_after at all top)) source sink)) (sym is) begun
+counted-parts m after need _ = refl
 
 -- steps that need no more cells than are counted leave the peak
 peak-still : (n cells peak : ℕ) → cells ≤ peak → peak_after n cells peak ≡ peak
 peak-still zero cells peak within = refl
 peak-still (suc n) cells peak within = omega arith
 
-module _ {I O : Type 0} (performed : Standing I O → Option Fate → Standing I O → Type 0) (start : Standing I O) (stops : Bool) (w new : Contents) (meta : ℕ) (at : Counters) (k peak : ℕ) where
-  -- a string is read, and some characters of it are scanned
-  pub drive-read : (source source_after : I) (sink : O) (scanned top all : ℕ) (outcome : StepOutcome) → ReadsOn performed outcome scanned w meta source sink new source_after → outcome.fate ≡ None → new.room ≡ w.room → at.steps + all ≤ at.allowance → top ≡ max peak outcome.need → all ≡ suc k + scanned → GoesBy performed k start (standing (turning stops w meta (counters_after at k peak)) source sink) → GoesBy performed all start (standing (turning stops new meta (counters_after at all top)) source_after sink)
-  drive-read source source_after sink scanned top all outcome r none stays within top_is all_is goes =
-      let step = subst (λ fate. PerformedFor performed fate outcome.need w meta source sink r.middle meta source_after sink) none r.step in
-      let one = drive-step performed start stops w r.middle meta at k peak meta outcome.need top (suc k) source source_after sink sink r.room (omega arith) step top_is refl goes in
-      let m = turning stops r.middle meta (counters_after at (suc k) top) in
-      let target = memory_of meta new in
-      let fits = r.fits none in
-      let later = goes-passing performed start source_after sink scanned (suc k) m target refl (omega (arith, size-used meta r.middle, r.sound.fits)) (omega arith) (r.scans meta) one in
-      let steps : at.steps + suc k + scanned ≡ at.steps + all = omega arith in
-      let peaks : peak_after scanned (size (memory_of meta r.middle)) top ≡ top = peak-still scanned (size (memory_of meta r.middle)) top (omega (arith, size-used meta r.middle)) in
-      let same : passed scanned target m ≡ turning stops new meta (counters_after at all top) = λ i. record { memory = target; room = (r.room ∙ sym stays) i; allowance = at.allowance; steps = steps i; peak = peaks i; fate = None; stops = stops } in
-      subst (λ j. GoesBy performed j start (standing (turning stops new meta (counters_after at all top)) source_after sink)) (sym all_is)
-      (subst (λ m. GoesBy performed (suc k + scanned) start (standing m source_after sink)) same later)
+-- how far a turn has come whose calls a performer performs: the steps that are done, and their peak
+pub record DrivenSoFar (I O : Type 0) : Type 0 where
+  pub at : Stage I O
+  pub done : ℕ
+  pub peak : ℕ
+
+abbrev pub so_far : {I O : Type 0} → Stage I O → (done peak : ℕ) → DrivenSoFar I O
+so_far at done peak = record { at = at; done = done; peak = peak }
+
+-- a turn that began at `start` with the counters `at`
+module _ {I O : Type 0} (performed : Standing I O → Option Fate → Standing I O → Type 0) (start : Standing I O) (stops : Bool) (at : Counters) where
+  abbrev pub machine_in : DrivenSoFar I O → MachineState
+  machine_in s = turning stops s.at.contents s.at.meta (counters_after at s.done s.peak)
+
+  abbrev standing_in : DrivenSoFar I O → Standing I O
+  standing_in s = standing (machine_in s) s.at.source s.at.sink
+
+  -- the steps that are done led there
+  abbrev pub IsDriven : DrivenSoFar I O → Type 0
+  IsDriven s = GoesBy performed s.done start (standing_in s)
+
+  -- `done` steps that perform no call lead on; the first of them needs `need` cells, or that is counted
+  pub record RunsThrough (done need : ℕ) (old new : DrivenSoFar I O) : Type 0 where
+    pub stage : new.at ≡ record old.at { contents = new.at.contents }
+    pub room : new.at.contents.room ≡ old.at.contents.room
+    pub sound : IsSound old.at.contents
+    pub allowed : at.steps + (old.done + done) ≤ at.allowance
+    pub some : 0 < done
+    pub passes : Advances done old.at.contents new.at.contents
+    pub known : IsNeed need (used old.at.contents) old.peak
+    pub peak_is : new.peak ≡ max old.peak need
+    pub done_is : new.done ≡ old.done + done
+
+  pub drive-run : (done need : ℕ) (old new : DrivenSoFar I O) → RunsThrough done need old new → IsDriven old → IsDriven new
+  drive-run done need old new h goes =
+      let w = old.at.contents in
+      let target = memory_of old.at.meta new.at.contents in
+      let later = goes-passing performed start old.at.source old.at.sink done old.done (machine_in old) target refl (omega (arith, size-used old.at.meta w, h.sound.fits)) (omega (arith, h.allowed)) (h.passes old.at.meta) goes in
+      let steps : at.steps + old.done + done ≡ at.steps + new.done = omega (arith, h.done_is) in
+      let peaks : peak_after done (size (memory_of old.at.meta w)) old.peak ≡ new.peak = ap (λ n. peak_after done n old.peak) (size-used old.at.meta w) ∙ peak-some done (used w) need old.peak h.some h.known ∙ sym h.peak_is in
+      let same : passed done target (machine_in old) ≡ turning stops new.at.contents old.at.meta (counters_after at new.done new.peak) = λ i. record { memory = target; room = sym h.room i; allowance = at.allowance; steps = steps i; peak = peaks i; fate = None; stops = stops } in
+      subst (λ stage. IsDriven (record new { at = stage })) (sym h.stage)
+      (subst (λ j. GoesBy performed j start (standing_in (record new { at = record old.at { contents = new.at.contents } }))) (sym h.done_is)
+      (subst (λ m. GoesBy performed (old.done + done) start (standing m old.at.source old.at.sink)) same later))
+
+  -- one step more
+  drive-next : (need : ℕ) (old new : DrivenSoFar I O) → new.at.contents.room ≡ old.at.contents.room → StepsBy performed (standing_in old) (standing (counted (machine_in old) (memory_of new.at.meta new.at.contents) need None) new.at.source new.at.sink) → new.peak ≡ max old.peak need → new.done ≡ suc old.done → IsDriven old → IsDriven new
+  drive-next need old new room step peak_is done_is goes =
+      let target = memory_of new.at.meta new.at.contents in
+      let steps : at.steps + old.done + 1 ≡ at.steps + new.done = omega arith in
+      let same : counted (machine_in old) target need None ≡ machine_in new = λ i. record { memory = target; room = sym room i; allowance = at.allowance; steps = steps i; peak = sym peak_is i; fate = None; stops = stops } in
+      let later : GoesBy performed (suc old.done) start (standing (counted (machine_in old) target need None) new.at.source new.at.sink) = (standing_in old, (goes, step)) in
+      subst (λ j. GoesBy performed j start (standing_in new)) (sym done_is)
+      (subst (λ m. GoesBy performed (suc old.done) start (standing m new.at.source new.at.sink)) same later)
+
+  -- a step that performs a call, or loads the idling procedure
+  pub drive-step : (need : ℕ) (old new : DrivenSoFar I O) → new.at.contents.room ≡ old.at.contents.room → at.steps + old.done < at.allowance → PerformedFor performed None need old.at new.at → new.peak ≡ max old.peak need → new.done ≡ suc old.done → IsDriven old → IsDriven new
+  drive-step need old new room allowed done peak_is done_is goes =
+      drive-next need old new room (inr (record { room = refl; allowance = refl; stops = refl }, done (machine_in old) refl refl allowed)) peak_is done_is goes
+
+  -- no step more is done
+  pub drive-stays : (declines : Memory → Type 0) (most no_comma_from : ℕ) (next : Option Function) (to : Advance) (s : DrivenSoFar I O) → to ≡ record { progress = record { done = s.done; next = next }; no_comma_from = no_comma_from; steps = at.steps + s.done; peak = s.peak; fate = None } → (s.done ≡ most) ⊎ ((at.steps + s.done ≡ at.allowance) ⊎ declines (memory_of s.at.meta s.at.contents)) → IsDriven s → Driven performed declines most to.progress.done start (standing (advanced_to stops s.at.contents s.at.meta at to) s.at.source s.at.sink)
+  drive-stays declines most no_comma_from next to s is why goes =
+      subst (λ (to : Advance). Driven performed declines most to.progress.done start (standing (advanced_to stops s.at.contents s.at.meta at to) s.at.source s.at.sink)) (sym is)
+      (standing_in s, (goes, (refl, why)))
+
+  -- the next step ends the run, and this is told of it
+  pub record LastStep (most need : ℕ) (fate : Fate) (to : Advance) (old : DrivenSoFar I O) (new : Stage I O) : Type 0 where
+    pub room : new.contents.room ≡ old.at.contents.room
+    pub allowed : at.steps + old.done < at.allowance
+    pub few : old.done < most
+    pub step : PerformedFor performed (Some fate) need old.at new
+    pub told :
+        let last = counted (machine_in old) (memory_of new.meta new.contents) need (Some fate) in
+        to ≡ record { progress = record { done = old.done; next = None }; no_comma_from = to.no_comma_from; steps = last.steps; peak = last.peak; fate = Some fate }
+
+  pub drive-ends : (declines : Memory → Type 0) (most need : ℕ) (fate : Fate) (to : Advance) (old : DrivenSoFar I O) (new : Stage I O) → LastStep most need fate to old new → IsDriven old → Driven performed declines most to.progress.done start (standing (advanced_to stops new.contents new.meta at to) new.source new.sink)
+  drive-ends declines most need fate to old new h goes =
+      let m = machine_in old in
+      let last = counted m (memory_of new.meta new.contents) need (Some fate) in
+      let told : Advance = record { progress = record { done = old.done; next = None }; no_comma_from = to.no_comma_from; steps = last.steps; peak = last.peak; fate = Some fate } in
+      let same : last ≡ advanced_to stops new.contents new.meta at told = counted-parts m (memory_of new.meta new.contents) need fate ∙ (λ i. record (advanced_to stops new.contents new.meta at told) { room = sym h.room i }) in
+      let ends = subst (λ last. performed (standing_in old) (Some fate) (standing last new.source new.sink)) same (h.step m refl refl h.allowed) in
+      let whole : Driven performed declines most told.progress.done start (standing (advanced_to stops new.contents new.meta at told) new.source new.sink) = (standing_in old, (goes, (h.few, ends))) in
+      subst (λ (to : Advance). Driven performed declines most to.progress.done start (standing (advanced_to stops new.contents new.meta at to) new.source new.sink)) (sym h.told) whole
+
+  -- there is room and an allowance for the idling procedure, which needs `need` cells
+  pub record MayIdle (need : ℕ) (s : DrivenSoFar I O) : Type 0 where
+    pub sound : IsSound s.at.contents
+    pub none : s.at.contents.active ≡ []
+    pub fits : cells s.at.contents.forms + 11 ≤ s.at.contents.room
+    pub allowed : at.steps + (s.done + 8) ≤ at.allowance
+    pub need_is : need ≡ cells s.at.contents.forms + 11
+
+  -- the idling procedure is loaded, and its calls are opened
+  pub drive-idling : (need top all : ℕ) (s : DrivenSoFar I O) → MayIdle need s → top ≡ max s.peak need → all ≡ s.done + 8 → IsDriven s → IsDriven (record { at = record s.at { contents = idling_begun s.at.contents }; done = all; peak = top })
+  drive-idling need top all s h top_is all_is goes =
+      let w = s.at.contents in
+      let meta = s.at.meta in
+      let loads = scans-idling w h.none in
+      let allowed : at.steps + s.done < at.allowance = omega (arith, h.allowed) in
+      let loaded : DrivenSoFar I O = record { at = record s.at { contents = idling_loaded w }; done = suc s.done; peak = top } in
+      let begun : DrivenSoFar I O = record { at = record s.at { contents = idling_begun w }; done = all; peak = top } in
+      let loading : StepsAlone (machine_in s) (counted (machine_in s) (memory_of meta (idling_loaded w)) need None) = record {
+        alone = unperformed (memory_of meta w) (uncalled (memory_of meta w) (loads.no_call meta));
+        unasked = uncalled-unasked stops (memory_of meta w) (loads.no_call meta);
+        goes = λ source written. subst (λ n. Tried (scene w meta source written) None n (scene (idling_loaded w) meta source written)) (sym h.need_is)
+            (tried-scanned None w (idling_loaded w) (cells w.forms + 11) loads h.fits meta source written) (machine_in s) refl refl allowed;
+        going = refl;
+        settings = record { room = refl; allowance = refl; stops = refl };
+      } in
+      drive-run 7 need loaded begun
+      (record {
+        stage = refl;
+        room = refl;
+        sound = idling-sound w h.sound h.fits;
+        allowed = omega (arith, h.allowed);
+        some = omega arith;
+        passes = idling-advances w;
+        known = inl (omega (arith, h.need_is));
+        peak_is = omega (arith, top_is);
+        done_is = omega (arith, all_is);
+      })
+      (drive-next need s loaded refl (inl (loading, refl)) top_is refl goes)
+
+  -- a string is read, and `scanned` characters of it are scanned
+  pub record ReadsThrough (scanned : ℕ) (outcome : StepOutcome) (old new : DrivenSoFar I O) : Type 0 where
+    pub stage : new.at ≡ record old.at { contents = new.at.contents; source = new.at.source }
+    pub reads : ReadsOn performed outcome scanned old.at new.at.contents new.at.source
+    pub going : outcome.fate ≡ None
+    pub room : new.at.contents.room ≡ old.at.contents.room
+    pub allowed : at.steps + new.done ≤ at.allowance
+    pub peak_is : new.peak ≡ max old.peak outcome.need
+    pub done_is : new.done ≡ suc old.done + scanned
+
+  pub drive-read : (scanned : ℕ) (outcome : StepOutcome) (old new : DrivenSoFar I O) → ReadsThrough scanned outcome old new → IsDriven old → IsDriven new
+  drive-read scanned outcome old new h goes =
+      let r = h.reads in
+      let meta = old.at.meta in
+      let middle : DrivenSoFar I O = record { at = record old.at { contents = r.middle; source = new.at.source }; done = suc old.done; peak = new.peak } in
+      let step = subst (λ fate. PerformedFor performed fate outcome.need old.at middle.at) h.going r.step in
+      let one = drive-step outcome.need old middle r.room (omega (arith, h.allowed, h.done_is)) step h.peak_is refl goes in
+      let target = memory_of meta new.at.contents in
+      let fits = r.fits h.going in
+      let later = goes-passing performed start new.at.source old.at.sink scanned (suc old.done) (machine_in middle) target refl (omega (arith, size-used meta r.middle, r.sound.fits)) (omega (arith, h.allowed, h.done_is)) (r.scans meta) one in
+      let steps : at.steps + suc old.done + scanned ≡ at.steps + new.done = omega (arith, h.done_is) in
+      let peaks : peak_after scanned (size (memory_of meta r.middle)) new.peak ≡ new.peak = peak-still scanned (size (memory_of meta r.middle)) new.peak (omega (arith, size-used meta r.middle, fits, h.peak_is)) in
+      let same : passed scanned target (machine_in middle) ≡ turning stops new.at.contents meta (counters_after at new.done new.peak) = λ i. record { memory = target; room = (r.room ∙ sym h.room) i; allowance = at.allowance; steps = steps i; peak = peaks i; fate = None; stops = stops } in
+      subst (λ stage. IsDriven (record new { at = stage })) (sym h.stage)
+      (subst (λ j. GoesBy performed j start (standing_in (record new { at = record old.at { contents = new.at.contents; source = new.at.source } }))) (sym h.done_is)
+      (subst (λ m. GoesBy performed (suc old.done + scanned) start (standing m new.at.source old.at.sink)) same later))
 
 -- what is declined where nothing is performed that needs a device
 abbrev pub DeclinesAlone : Bool → Memory → Type 0
@@ -178,8 +233,8 @@ module _ {I O : Type 0} (stops : Bool) where
   Alone old fate new = old.machine.stops ≡ stops → PerformedAlone old.machine fate new.machine
 
   -- what the try of a step that needs no device says of each machine
-  pub performed-alone : (w new : Contents) (meta after need : ℕ) (fate : Option Fate) (source : I) (sink : O) → needs_device (memory_of meta w) ≡ false → stops_at stops (memory_of meta w) ≡ false → ((source : Stream) (written : Text) → Tried (scene w meta source written) fate need (scene new after source written)) → NoneFailed fate → (fate ≢ None → KeepsFormsAndMeta (memory_of meta w) (memory_of after new)) → PerformedFor Alone fate need w meta source sink new after source sink
-  performed-alone w new meta after need None source sink alone unasked tried quiet keeps = λ m room_is memory_is allowed same.
+  pub performed-alone : (need : ℕ) (fate : Option Fate) (old new : Stage I O) → needs_device (memory_of old.meta old.contents) ≡ false → stops_at stops (memory_of old.meta old.contents) ≡ false → ((source : Stream) (written : Text) → Tried (scene old.contents old.meta source written) fate need (scene new.contents new.meta source written)) → NoneFailed fate → (fate ≢ None → KeepsFormsAndMeta (memory_of old.meta old.contents) (memory_of new.meta new.contents)) → PerformedFor Alone fate need old new
+  performed-alone need None old new alone unasked tried quiet keeps = λ m room_is memory_is allowed same.
       record {
         alone = ap needs_device memory_is ∙ alone;
         unasked = (λ i. stops_at (same i) (memory_is i)) ∙ unasked;
@@ -187,14 +242,14 @@ module _ {I O : Type 0} (stops : Bool) where
         going = refl;
         settings = record { room = refl; allowance = refl; stops = refl };
       }
-  performed-alone w new meta after need (Some fate) source sink alone unasked tried quiet keeps = λ m room_is memory_is allowed same.
+  performed-alone need (Some fate) old new alone unasked tried quiet keeps = λ m room_is memory_is allowed same.
       record {
         alone = ap needs_device memory_is ∙ alone;
         unasked = (λ i. stops_at (same i) (memory_is i)) ∙ unasked;
         ends = λ source written. tried source written m room_is memory_is allowed;
         none_failed = quiet;
-        keeps = subst (λ old. KeepsFormsAndMeta old (counted m (memory_of after new) need (Some fate)).memory) (sym memory_is)
-            (subst (KeepsFormsAndMeta (memory_of meta w)) (sym (counted-memory m (memory_of after new) need (Some fate))) (keeps (λ e. absurd cc)));
+        keeps = subst (λ memory. KeepsFormsAndMeta memory (counted m (memory_of new.meta new.contents) need (Some fate)).memory) (sym memory_is)
+            (subst (KeepsFormsAndMeta (memory_of old.meta old.contents)) (sym (counted-memory m (memory_of new.meta new.contents) need (Some fate))) (keeps (λ e. absurd cc)));
       }
 
   goes-alone : (n : ℕ) (start now : Standing I O) → start.machine.stops ≡ stops → GoesBy Alone n start now → GoesAlone n start.machine now.machine × (now.machine.stops ≡ stops)

@@ -1,5 +1,5 @@
 -- A call of no function to which the host gives a value.
-use Rattle.trac_core.proofs.Imports.{ending, ◌≡◌, ℕ, ◌+◌, ◌-◌, ◌<◌, ◌≤◌, max, Bool, true, false, List, [], ◌∷◌, length, drop, Option, Some, None, refl, sym, ap, ◌∙◌, arith, append-nil, slice_get, Text, Input, OpenCall, State, size, Rule, EndCall, rule, Next, deliver, follow, with_active, world_of, built, meaning, World, ◌++◌, reads_last, end_call, perform, function_of, need_by, end_need, need, step, world, arguments, reads_last_by, Contents, used, IsSound, IsLastCall, text_of_cells, function_at, memory_of, mode_at, state_with, state_of, delivered, ClosesCall, Fate, Workspace, Steps, Halted, InputEnded, InputFailed, OutputFailed, Moment, moment, Answers, MachineState, Stream, counted, calls_unknown, is_unknown, call_performed_by, Function}
+use Rattle.trac_core.proofs.Imports.{ending, ◌≡◌, ℕ, ◌+◌, ◌-◌, ◌<◌, ◌≤◌, max, Bool, true, false, List, [], ◌∷◌, length, drop, Option, Some, None, refl, sym, ap, ◌∙◌, arith, append-nil, slice_get, Text, Input, OpenCall, State, size, Rule, EndCall, rule, Next, deliver, follow, with_active, world_of, built, meaning, World, ◌++◌, reads_last, end_call, perform, function_of, need_by, end_need, need, step, world, arguments, reads_last_by, Contents, used, IsSound, IsLastCall, text_of_cells, function_at, Scene, memory_of, mode_at, state_with, state_of, delivered, ClosesCall, Fate, Workspace, Steps, Moment, moment, Answers, MachineState, Stream, counted, calls_unknown, is_unknown, call_performed_by, Function}
 use Rattle.std.specs.Prelude.{is_none, is_some, MatchOption}
 use Rattle.trac_laws.specs.LastRead.{end_reads_last}
 use Rattle.std.proofs.lemmas.Bool.{true≢false}
@@ -72,10 +72,7 @@ null-answers old new (Some Workspace) unknown a =
     let need_is = unknown-need (state_of old) unknown in
     record { allowed = a.allowed; full = let full = a.full in omega (arith, need_is, full); counts = a.counts; written = a.written }
 null-answers old new (Some Steps) unknown a = a
-null-answers old new (Some Halted) unknown a = absurd a
-null-answers old new (Some InputEnded) unknown a = absurd a
-null-answers old new (Some InputFailed) unknown a = absurd a
-null-answers old new (Some OutputFailed) unknown a = absurd a
+null-answers old new (Some _) unknown a = absurd a
 
 -- ---- over the contents of a workspace
 
@@ -113,32 +110,37 @@ pub is-found : {A : Type 0} (o : Option A) (b : Bool) → MatchOption o (b ≡ f
 is-found None b e = sym e
 is-found (Some a) b e = sym e
 
+-- over the contents `old` the call at `place` ends with the host's value, or there is no room for that
+pub record EndsWith (how : Delivery) (value : Text) (place : ℕ) (old new : Contents) (need : ℕ) (fate : Option Fate) : Type 0 where
+  pub sound : IsSound old
+  pub first : slice_get (text_of_cells old.active) 0 ≡ Some 41
+  pub last : IsLastCall old.neutral place
+  pub fits : need ≤ old.room
+  pub ended :
+      MatchOption fate ((need ≡ used old - 1 + length value) × (new ≡ delivered (mode_by how (mode_at old.neutral place)) (is_forced how) value place (record old { active = drop 1 old.active })))
+      (λ fate. (fate ≡ Workspace) × ((old.room < used old - 1 + length value) × (new ≡ old)))
+
 -- what a machine over some contents answers with the host's value
-pub tells-answered : (how : Delivery) (value : Text) (m : MachineState) (w0 w1 : Contents) (place meta need : ℕ) (fate : Option Fate) (source : Stream) (written : Text) → m.memory ≡ memory_of meta w0 → m.room ≡ w0.room → m.steps < m.allowance → IsSound w0 → slice_get (text_of_cells w0.active) 0 ≡ Some 41 → IsLastCall w0.neutral place → need ≤ w0.room → MatchOption fate ((need ≡ used w0 - 1 + length value) × (w1 ≡ delivered (mode_by how (mode_at w0.neutral place)) (is_forced how) value place (record w0 { active = drop 1 w0.active }))) (λ fate. (fate ≡ Workspace) × ((w0.room < used w0 - 1 + length value) × (w1 ≡ w0))) → Answered how value (moment m source written) fate (moment (counted m (memory_of meta w1) need fate) source written)
-tells-answered how value m w0 w1 place meta need None source written memory_is room_is allowed sound first last fits ended =
-    let after = record w0 { active = drop 1 w0.active } in
-    let size_is = ap size memory_is ∙ size-used meta w0 in
-    let need_is : need ≡ answer_need value m.memory = let is = ended.0 in omega (arith, is, size_is) in
+pub tells-answered : (how : Delivery) (value : Text) (place need : ℕ) (fate : Option Fate) (old : Scene) (new : Contents) → EndsWith how value place old.contents new need fate → (m : MachineState) → m.room ≡ old.contents.room → m.memory ≡ memory_of old.meta old.contents → m.steps < m.allowance → Answered how value (moment m old.source old.written) fate (moment (counted m (memory_of old.meta new) need fate) old.source old.written)
+tells-answered how value place need None old new h = λ m room_is memory_is allowed.
+    let w = old.contents in
+    let after = record w { active = drop 1 w.active } in
+    let need_is : need ≡ answer_need value m.memory = let is = h.ended.0 in omega (arith, is, ap size memory_is ∙ size-used old.meta w) in
     record {
       allowed = allowed;
-      fits = omega (arith, need_is, fits, room_is);
-      goes = rw memory_is (goes-answered w0 after place (performs-closed w0 after place sound first last refl) how value meta (ending source.bytes) written) ∙ ap (λ (w : Contents). Next (state_with (memory_of meta w) (ending source.bytes) written)) (sym ended.1);
+      fits = omega (arith, need_is, h.fits, room_is);
+      goes = rw memory_is (goes-answered w after place (performs-closed w after place h.sound h.first h.last refl) how value old.meta (ending old.source.bytes) old.written) ∙ ap (λ (w : Contents). Next (state_with (memory_of old.meta w) (ending old.source.bytes) old.written)) (sym h.ended.1);
       counts = record { steps = refl; peak = ap (max m.peak) need_is };
       source = refl;
     }
-tells-answered how value m w0 w1 place meta need (Some Workspace) source written memory_is room_is allowed sound first last fits ended =
-    let size_is = ap size memory_is ∙ size-used meta w0 in
-    let full = ended.1.0 in
+tells-answered how value place need (Some Workspace) old new h = λ m room_is memory_is allowed.
+    let full = h.ended.1.0 in
     record {
       allowed = allowed;
-      full = omega (arith, full, size_is, room_is);
+      full = omega (arith, full, ap size memory_is ∙ size-used old.meta old.contents, room_is);
       counts = record { steps = omega arith; peak = omega arith };
-      memory = ap (memory_of meta) ended.1.1 ∙ sym memory_is;
+      memory = ap (memory_of old.meta) h.ended.1.1 ∙ sym memory_is;
       source = refl;
       written = refl;
     }
-tells-answered how value m w0 w1 place meta need (Some Steps) source written memory_is room_is allowed sound first last fits ended = absurd (let no = ended.0 in cc)
-tells-answered how value m w0 w1 place meta need (Some Halted) source written memory_is room_is allowed sound first last fits ended = absurd (let no = ended.0 in cc)
-tells-answered how value m w0 w1 place meta need (Some InputEnded) source written memory_is room_is allowed sound first last fits ended = absurd (let no = ended.0 in cc)
-tells-answered how value m w0 w1 place meta need (Some InputFailed) source written memory_is room_is allowed sound first last fits ended = absurd (let no = ended.0 in cc)
-tells-answered how value m w0 w1 place meta need (Some OutputFailed) source written memory_is room_is allowed sound first last fits ended = absurd (let no = ended.0 in cc)
+tells-answered how value place need (Some _) old new h = absurd (let no = h.ended.0 in cc)

@@ -135,10 +135,10 @@ module _ (w : Contents) (place : ℕ) where
   unfolding meaning_of
   answers-display call meta source written =
       let means = displays (form_named (argument (arguments_at w.neutral place) 1) w.forms) (world w.forms meta (ending source.bytes)) in
-      tried-null w place (Some PrintForm) meta meta source written (display (form_named (argument (arguments_at w.neutral place) 1) w.forms)) call.names call.sound means (sym (ap value_length means)) refl
+      tried-null place (Some PrintForm) (scene w meta source written) meta (display (form_named (argument (arguments_at w.neutral place) 1) w.forms)) _ call means (sym (ap value_length means)) refl refl
 
   pub answers-display-broken : IsCall w place (Some PrintForm) → (meta : ℕ) (source : Stream) (written put rest : Text) → display (form_named (argument (arguments_at w.neutral place) 1) w.forms) ≡ put ++ rest → put ++ rest ≢ [] → AnswersCall place (scene w meta source written) (Over OutputFailed) (scene w meta source (written ++ put))
   unfolding meaning_of
   answers-display-broken call meta source written put rest parts some =
       let means = displays (form_named (argument (arguments_at w.neutral place) 1) w.forms) (world w.forms meta (ending source.bytes)) in
-      tried-broken w w place (Some PrintForm) meta source written put rest (used w) _ call.names means parts some (let none_built = ap value_length means in omega arith) (omega arith)
+      tried-broken place (Some PrintForm) (scene w meta source written) put rest (used w) _ (record { names = call.names; means = means; needs = let none_built = ap value_length means in omega arith; fits = call.sound.fits }) parts some

@@ -10,7 +10,7 @@ pub use Rattle.std.proofs.lemmas.List.Sums.{sum_by-cons}
 pub use Rattle.std.proofs.lemmas.Option.{slice_get-get_or, unwrap_or-slice_get}
 pub use Rattle.std.specs.List.{before_first, list_any, position_or_len, range_with_len}
 pub use Rattle.std.specs.Prelude.{Err, MatchResult, Ok, OnErr, Result, bytes_eq, codes, decimal, if◌then◌else◌, is_some, nat_le, nat_lt, unwrap_or, ℤ, ◌==◌}
-pub use Rattle.trac_core.specs.StepOutcomes.{AnswersCall, ClosesCall, EndsQuietly, IsCall, IsValueFrom, LeavesSink, LeavesSource, NoneFailed, Scanned, Scans, Stands, TakesFrom, Tried, TriedCall, delivered, fate_after, function_at, scene, settled}
+pub use Rattle.trac_core.specs.StepOutcomes.{AnswersCall, ClosesCall, EndsQuietly, IsCall, IsValueFrom, LeavesSink, LeavesSource, NoneFailed, Scanned, Scene, Scans, Stands, TakesFrom, Tried, TriedCall, delivered, fate_after, function_at, scene, settled, value_delivered}
 pub use Rattle.trac_core.specs.Display.{display, shown}
 pub use Rattle.trac_core.specs.Machine.{Answers, BrokeOff, Course, EndsRun, GoesOn, IsReportOf, KeepsFormsAndMeta, KeepsSettings, LeavesMemory, MachineState, Moment, RanThrough, RanToFailure, Reports, ReportsOf, Resumes, StopsAtAllowance, StopsAtInput, StopsAtOutput, StopsAtRoom, after_steps, counted, ending, failing, failing_state_of, first_runs, input_failures, later_runs, fresh_machine, memory_after, moment, output_failures, state_of, state_with}
 pub use Rattle.trac_core.specs.Matching.{IsAt, side_in, side_of}
@@ -19,7 +19,7 @@ pub use Rattle.trac_core.specs.OpenCalls.{asks_host, call_performed_by, calls_un
 pub use Rattle.trac_core.specs.Performed.{performed_by, performs, prints_output, reads_input, touches_device, calls_device, needs_device, needs_device_by}
 pub use Rattle.trac_core.specs.NamedCalls.{IsAlone, IsNamed}
 pub use Rattle.trac_core.specs.Advancing.{Advanced, EndsAlone, GoesAlone, NeedsMore, StepsAlone, StopsAlone, advanced_to}
-pub use Rattle.trac_core.specs.Driving.{Declined, Driven, GoesBy, PerformedAlone, PerformedFor, PerformedWith, Standing, StepsBy, StopsBy, standing}
+pub use Rattle.trac_core.specs.Driving.{Declined, Driven, GoesBy, PerformedAlone, PerformedFor, PerformedWith, Stage, Standing, StepsBy, StopsBy, stage, standing}
 pub use Rattle.trac_core.specs.Session.{printed_in}
 pub use Rattle.trac_core.specs.StepsInRow.{Advances, AsksFor, IsLayout, IsOrdinary, HasNoCommaFrom, Passes, PassesTimes, SomeSteps, is_special, kind_in, kind_of, passed, peak_after, turning}
 pub use Rattle.trac_language.specs.declared.report.Report.{Report}

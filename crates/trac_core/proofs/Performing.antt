@@ -1,5 +1,5 @@
 -- A call that is performed, over the contents of a workspace.
-use Rattle.trac_core.proofs.Imports.{take-take, if◌then◌else◌, failing_state_of, StopsAtInput, StopsAtOutput, ◌≡◌, ◌≢◌, ℕ, ◌+◌, ◌-◌, ◌<◌, ◌≤◌, max, Bool, true, false, not, ◌&&◌, ◌||◌, List, [], ◌∷◌, ◌++◌, length, take, drop, All, Option, Some, None, refl, sym, ap, ◌∙◌, subst, arith, append-nil, length-append, ◌==◌, slice_get, unwrap_or, nat_le, unwrap_or-slice_get, list_any, length-map, length-drop, get_or_append_left, drop-append_seam, take-append_seam, take-length, Mode, Active, Function, ReadString, ReadCharacter, ChangeMeta, PrintString, PrintForm, Halt, Fate, Workspace, Steps, InputFailed, OutputFailed, Text, Form, function_named, Input, State, argument, size, Answer, Gives, Ends, meaning_of, meaning, built, deliver, perform, step, need, is_read_string, reads_last, reads_to_end, Cell, Byte, flat_text, text_of_cells, character_of, IsByte, IsLastCall, Contents, used, IsSound, Stream, Full, AtEnd, InFront, Unscanned, Null, Over, texts_of, no_neutral, neutral_of, memory_of, mode_of, mode_at, is_active_mode, arguments_at, texts_from, world, IsValue, IsHeld, IsPlaced, IsDefined, Makes, is_self_contained, performs, touches_device, calls_device, needs_device, silent, MachineState, moment, ending, failing, state_with, state_of, failing_state_of, EndsRun, input_failures, output_failures, scene, TriedCall, ClosesCall, function_at, delivered, settled, AnswersCall, IsValueFrom, Stands, fate_after, or_right, true≢false}
+use Rattle.trac_core.proofs.Imports.{take-take, if◌then◌else◌, failing_state_of, StopsAtInput, StopsAtOutput, ◌≡◌, ◌≢◌, ℕ, ◌+◌, ◌-◌, ◌<◌, ◌≤◌, max, Bool, true, false, not, ◌&&◌, ◌||◌, List, [], ◌∷◌, ◌++◌, length, take, drop, All, Option, Some, None, refl, sym, ap, ◌∙◌, subst, arith, append-nil, length-append, ◌==◌, slice_get, unwrap_or, nat_le, unwrap_or-slice_get, list_any, length-map, length-drop, get_or_append_left, drop-append_seam, take-append_seam, take-length, Mode, Active, Function, ReadString, ReadCharacter, ChangeMeta, PrintString, PrintForm, Halt, Fate, Workspace, Steps, InputFailed, OutputFailed, Text, Form, function_named, Input, State, argument, size, Answer, Meaning, Gives, Ends, World, meaning_of, meaning, built, deliver, perform, step, need, is_read_string, reads_last, reads_to_end, Cell, Byte, flat_text, text_of_cells, character_of, IsByte, IsLastCall, Contents, used, IsSound, Stream, Full, AtEnd, InFront, Unscanned, Null, Over, texts_of, no_neutral, neutral_of, memory_of, mode_of, mode_at, is_active_mode, arguments_at, texts_from, world, IsValue, IsHeld, IsPlaced, IsDefined, Makes, is_self_contained, performs, touches_device, calls_device, needs_device, MachineState, moment, ending, failing, state_with, state_of, failing_state_of, EndsRun, input_failures, output_failures, Scene, scene, IsCall, TriedCall, ClosesCall, function_at, delivered, value_delivered, settled, AnswersCall, IsValueFrom, Stands, fate_after, or_right, true≢false}
 use Rattle.trac_language.specs.declared.mode.Mode.TheVariants.{Neutral as NeutralMode}
 use Rattle.trac_laws.proofs.Rules.{rule_end}
 use Rattle.trac_space.proofs.Texts.{text_of_cells-append}
@@ -48,113 +48,111 @@ module _ (old w : Contents) (place : ℕ) (p : ClosesCall old w place) (f : Opti
 
 -- ---- what a machine is told
 
--- a call gives an answer, and the step goes on
-pub record Answered (w new : Contents) (place : ℕ) (f : Option Function) (meta meta' : ℕ) (source source' : Stream) (put : Text) (needed : ℕ) (value : Text) (forced : Bool) (forms : List Form) : Type 0 where
-  pub means : meaning f (arguments_at w.neutral place) (world w.forms meta (ending source.bytes)) ≡ Gives (record { value = value; forced = forced; world = world forms meta' (ending source'.bytes); printed = put })
-  pub stands : new ≡ delivered (mode_at w.neutral place) forced value place (record w { forms = forms })
-  pub needs : needed ≡ used w + built f (arguments_at w.neutral place) (world w.forms meta (ending source.bytes))
-  pub fits : needed ≤ w.room
-  pub stays_ended : source.ended ≡ true → source'.ended ≡ true
-  pub read_all : reads_last f (world w.forms meta (ending source.bytes)) ≡ true → source'.ended ≡ true
+-- the world in which a call of a scene is performed over an input
+abbrev pub world_in : Scene → Input → World
+world_in s input = world s.contents.forms s.meta input
 
 room-performs : (old w : Contents) (place : ℕ) → ClosesCall old w place → old.room ≡ w.room
 room-performs old w place p = ap (λ (w : Contents). w.room) p.same
-
-pub tried-answer : (w new : Contents) (place : ℕ) (f : Option Function) (meta meta' : ℕ) (source source' : Stream) (written put : Text) (needed : ℕ) (value : Text) (forced : Bool) (forms : List Form) → function_named (argument (arguments_at w.neutral place) 0) ≡ f → Answered w new place f meta meta' source source' put needed value forced forms → TriedCall place (scene w meta source written) None needed (scene new meta' source' (written ++ put))
-tried-answer w new place f meta meta' source source' written put needed value forced forms names a = λ old p m room_is memory_is allowed.
-    let need_is : need (state_of (moment m source written)) ≡ needed = rw memory_is (need-performs old w place p f names meta (ending source.bytes) written ∙ sym a.needs) in
-    let room = room-performs old w place p in
-    record {
-      may = record { allowed = allowed; fits = omega arith };
-      goes = rw (memory_is, step-performs old w place p f names meta (ending source.bytes) written, a.means, a.stands, memory-delivered (mode_at w.neutral place) forced value place meta' (record w { forms = forms })) refl;
-      counts = record { steps = refl; peak = ap (max m.peak) (sym need_is) };
-      stays_ended = a.stays_ended;
-      read_all = λ reads. a.read_all (sym (reads-call old w place p f names meta (ending source.bytes) written) ∙ rw memory_is at reads);
-    }
-
--- the call needs more than the room
-pub tried-full : (w new : Contents) (place : ℕ) (f : Option Function) (meta : ℕ) (source source' : Stream) (written : Text) (needed : ℕ) → function_named (argument (arguments_at w.neutral place) 0) ≡ f → w.room < used w + built f (arguments_at w.neutral place) (world w.forms meta (ending source.bytes)) → TriedCall place (scene w meta source written) (Some Workspace) needed (scene new meta source' written)
-tried-full w new place f meta source source' written needed names full = λ old p m room_is memory_is allowed.
-    let need_is = need-performs old w place p f names meta (ending source.bytes) written in
-    let room = room-performs old w place p in
-    record { allowed = allowed; full = rw memory_is (omega arith); counts = record { steps = omega arith; peak = omega arith }; written = refl }
-
--- the call is an end of the language that counts as a step
-pub tried-end : (fate : Fate) (w new : Contents) (place : ℕ) (f : Option Function) (meta : ℕ) (source source' : Stream) (written : Text) (needed : ℕ) → function_named (argument (arguments_at w.neutral place) 0) ≡ f → meaning f (arguments_at w.neutral place) (world w.forms meta (ending source.bytes)) ≡ Ends fate → needed ≡ used w + built f (arguments_at w.neutral place) (world w.forms meta (ending source.bytes)) → needed ≤ w.room → source'.bytes ≡ source.bytes → (old : Contents) → ClosesCall old w place → (m : MachineState) → m.room ≡ old.room → m.memory ≡ memory_of meta old → m.steps < m.allowance → (new' : MachineState) → new'.steps ≡ m.steps + 1 → new'.peak ≡ max m.peak needed → EndsRun fate (moment m source written) (moment new' source' written)
-tried-end fate w new place f meta source source' written needed names means needs fits left old p m room_is memory_is allowed new' steps_is peak_is =
-    let need_is : need (state_of (moment m source written)) ≡ needed = rw memory_is (need-performs old w place p f names meta (ending source.bytes) written ∙ sym needs) in
-    let room = room-performs old w place p in
-    record {
-      may = record { allowed = allowed; fits = omega arith };
-      ends = rw (memory_is, step-performs old w place p f names meta (ending source.bytes) written, means) refl;
-      counts = record { steps = steps_is; peak = peak_is ∙ ap (max m.peak) (sym need_is) };
-      source = left;
-      written = refl;
-    }
-
--- the source failed after it gave some bytes
-pub tried-failed : (w new : Contents) (place : ℕ) (f : Option Function) (meta : ℕ) (source source' : Stream) (written given : Text) (needed : ℕ) → function_named (argument (arguments_at w.neutral place) 0) ≡ f → meaning f (arguments_at w.neutral place) (world w.forms meta (failing given)) ≡ Ends InputFailed → needed ≡ used w + built f (arguments_at w.neutral place) (world w.forms meta (failing given)) → needed ≤ w.room → source.bytes ≡ given ++ source'.bytes → source.ended ≡ false → TriedCall place (scene w meta source written) (Some InputFailed) needed (scene new meta source' written)
-tried-failed w new place f meta source source' written given needed names means needs fits gave open_still = λ old p m room_is memory_is allowed.
-    let need_is : need (failing_state_of (moment m source written) given) ≡ needed = rw memory_is (need-performs old w place p f names meta (failing given) written ∙ sym needs) in
-    let room = room-performs old w place p in
-    let stops : StopsAtInput (moment m source written) _ given = record {
-      consumed = gave;
-      not_ended = open_still;
-      may = record { allowed = allowed; fits = omega arith };
-      ends = rw (memory_is, step-performs old w place p f names meta (failing given) written, means) refl;
-      counts = record { steps = omega arith; peak = ap (max m.peak) (sym need_is) };
-      written = refl;
-    } in
-    (given, stops)
-
--- the sink failed
-pub tried-broken : (w new : Contents) (place : ℕ) (f : Option Function) (meta : ℕ) (source : Stream) (written put rest : Text) (needed : ℕ) (answer : Answer) → function_named (argument (arguments_at w.neutral place) 0) ≡ f → meaning f (arguments_at w.neutral place) (world w.forms meta (ending source.bytes)) ≡ Gives answer → answer.printed ≡ put ++ rest → put ++ rest ≢ [] → needed ≡ used w + built f (arguments_at w.neutral place) (world w.forms meta (ending source.bytes)) → needed ≤ w.room → TriedCall place (scene w meta source written) (Some OutputFailed) needed (scene new meta source (written ++ put))
-tried-broken w new place f meta source written put rest needed answer names means prints some needs fits = λ old p m room_is memory_is allowed.
-    let need_is : need (state_of (moment m source written)) ≡ needed = rw memory_is (need-performs old w place p f names meta (ending source.bytes) written ∙ sym needs) in
-    let room = room-performs old w place p in
-    let after = memory_of meta (closed w place) in
-    let next : State = record { memory = deliver (mode_at w.neutral place) answer.forced answer.value (record after { forms = answer.world.forms; meta = answer.world.meta }); input = answer.world.input; output = written ++ answer.printed } in
-    let stops : StopsAtOutput (moment m source written) _ next put rest = record {
-      may = record { allowed = allowed; fits = omega arith };
-      goes = rw (memory_is, step-performs old w place p f names meta (ending source.bytes) written, means) refl;
-      prints = ap (λ t. written ++ t) prints;
-      some = some;
-      counts = record { steps = omega arith; peak = ap (max m.peak) (sym need_is) };
-      written = refl;
-    } in
-    (next, (put, (rest, stops)))
-
--- ---- calls that neither read nor print
-
--- nothing is printed
-pub tried-quiet : (w new : Contents) (place : ℕ) (f : Option Function) (meta meta' : ℕ) (source source' : Stream) (written : Text) (needed : ℕ) (value : Text) (forced : Bool) (forms : List Form) → function_named (argument (arguments_at w.neutral place) 0) ≡ f → Answered w new place f meta meta' source source' [] needed value forced forms → TriedCall place (scene w meta source written) None needed (scene new meta' source' written)
-tried-quiet w new place f meta meta' source source' written needed value forced forms names a =
-    subst (λ output. TriedCall place (scene w meta source written) None needed (scene new meta' source' output)) (append-nil written)
-    (tried-answer w new place f meta meta' source source' written [] needed value forced forms names a)
 
 -- with a null value the call only leaves
 pub delivered-null : (mode : Mode) (place : ℕ) (w : Contents) → delivered mode false [] place w ≡ closed w place
 delivered-null Active place w = refl
 delivered-null NeutralMode place w = ap (λ n. record w { neutral = n }) (append-nil (take place w.neutral))
 
--- a call with a null value
-pub tried-null : (w : Contents) (place : ℕ) (f : Option Function) (meta meta' : ℕ) (source : Stream) (written put : Text) → function_named (argument (arguments_at w.neutral place) 0) ≡ f → IsSound w → meaning f (arguments_at w.neutral place) (world w.forms meta (ending source.bytes)) ≡ Gives (record { value = []; forced = false; world = world w.forms meta' (ending source.bytes); printed = put }) → 0 ≡ built f (arguments_at w.neutral place) (world w.forms meta (ending source.bytes)) → reads_last f (world w.forms meta (ending source.bytes)) ≡ false → TriedCall place (scene w meta source written) None (used w + 0) (scene (closed w place) meta' source (written ++ put))
-tried-null w place f meta meta' source written put names sound means none_built no_read =
-    tried-answer w (closed w place) place f meta meta' source source written put (used w + 0) [] false w.forms names
-    (record {
-      means = means;
-      stands = sym (delivered-null (mode_at w.neutral place) place w);
-      needs = ap (λ n. used w + n) none_built;
-      fits = let fits = sound.fits in omega arith;
-      stays_ended = λ e. e;
-      read_all = λ reads. absurd (true≢false (sym reads ∙ no_read));
-    })
+module _ (place : ℕ) (f : Option Function) where
+  -- over an input the call of the scene `old` means this, and needs so many cells, which fit
+  pub record Performs (old : Scene) (input : Input) (is : Meaning) (needed : ℕ) : Type 0 where
+    pub names : function_at old.contents.neutral place ≡ f
+    pub means : meaning f (arguments_at old.contents.neutral place) (world_in old input) ≡ is
+    pub needs : needed ≡ used old.contents + built f (arguments_at old.contents.neutral place) (world_in old input)
+    pub fits : needed ≤ old.contents.room
 
--- and it prints nothing
-pub quiet-null : (w : Contents) (place : ℕ) (f : Option Function) (meta meta' : ℕ) (source : Stream) (written : Text) → function_named (argument (arguments_at w.neutral place) 0) ≡ f → IsSound w → meaning f (arguments_at w.neutral place) (world w.forms meta (ending source.bytes)) ≡ silent (world w.forms meta' (ending source.bytes)) → 0 ≡ built f (arguments_at w.neutral place) (world w.forms meta (ending source.bytes)) → reads_last f (world w.forms meta (ending source.bytes)) ≡ false → TriedCall place (scene w meta source written) None (used w + 0) (scene (closed w place) meta' source written)
-quiet-null w place f meta meta' source written names sound means none_built no_read =
-    subst (λ output. TriedCall place (scene w meta source written) None (used w + 0) (scene (closed w place) meta' source output)) (append-nil written)
-    (tried-null w place f meta meta' source written [] names sound means none_built no_read)
+  -- its answer leads to the scene `new`
+  pub record LeadsTo (old : Scene) (answer : Answer) (new : Scene) : Type 0 where
+    pub stands : new.contents ≡ delivered (mode_at old.contents.neutral place) answer.forced answer.value place (record old.contents { forms = answer.world.forms })
+    pub world : answer.world ≡ world answer.world.forms new.meta (ending new.source.bytes)
+    pub prints : new.written ≡ old.written ++ answer.printed
+    pub stays_ended : old.source.ended ≡ true → new.source.ended ≡ true
+    pub read_all : reads_last f (world_in old (ending old.source.bytes)) ≡ true → new.source.ended ≡ true
+
+  pub tried-answer : (old new : Scene) (answer : Answer) (needed : ℕ) → Performs old (ending old.source.bytes) (Gives answer) needed → LeadsTo old answer new → TriedCall place old None needed new
+  tried-answer old new answer needed h to = λ before p m room_is memory_is allowed.
+      let w = old.contents in
+      let input = ending old.source.bytes in
+      let need_is : need (state_of (moment m old.source old.written)) ≡ needed = rw memory_is (need-performs before w place p f h.names old.meta input old.written ∙ sym h.needs) in
+      let meta = ap (λ w. w.meta) to.world in
+      let left = ap (λ w. w.input) to.world in
+      let room = room-performs before w place p in
+      record {
+        may = record { allowed = allowed; fits = omega (arith, need_is, h.fits, room_is, room) };
+        goes = rw (memory_is, step-performs before w place p f h.names old.meta input old.written, h.means, to.stands, to.prints, ← left, ← meta, memory-delivered (mode_at w.neutral place) answer.forced answer.value place answer.world.meta (record w { forms = answer.world.forms })) refl;
+        counts = record { steps = refl; peak = ap (max m.peak) (sym need_is) };
+        stays_ended = to.stays_ended;
+        read_all = λ reads. to.read_all (sym (reads-call before w place p f h.names old.meta input old.written) ∙ rw memory_is at reads);
+      }
+
+  -- the call needs more than the room
+  pub tried-full : (old : Scene) (new : Contents) (left : Stream) (needed : ℕ) → function_at old.contents.neutral place ≡ f → old.contents.room < used old.contents + built f (arguments_at old.contents.neutral place) (world_in old (ending old.source.bytes)) → TriedCall place old (Some Workspace) needed (record old { contents = new; source = left })
+  tried-full old new left needed names full = λ before p m room_is memory_is allowed.
+      let need_is = need-performs before old.contents place p f names old.meta (ending old.source.bytes) old.written in
+      let room = room-performs before old.contents place p in
+      record { allowed = allowed; full = rw memory_is (omega arith); counts = record { steps = omega arith; peak = omega arith }; written = refl }
+
+  -- the call is an end of the language that counts as a step
+  pub tried-end : (fate : Fate) (old : Scene) (left : Stream) (needed : ℕ) → Performs old (ending old.source.bytes) (Ends fate) needed → left.bytes ≡ old.source.bytes → (before : Contents) → ClosesCall before old.contents place → (m : MachineState) → m.room ≡ before.room → m.memory ≡ memory_of old.meta before → m.steps < m.allowance → (new : MachineState) → new.steps ≡ m.steps + 1 → new.peak ≡ max m.peak needed → EndsRun fate (moment m old.source old.written) (moment new left old.written)
+  tried-end fate old left needed h same = λ before p m room_is memory_is allowed new steps_is peak_is.
+      let input = ending old.source.bytes in
+      let need_is : need (state_of (moment m old.source old.written)) ≡ needed = rw memory_is (need-performs before old.contents place p f h.names old.meta input old.written ∙ sym h.needs) in
+      let room = room-performs before old.contents place p in
+      record {
+        may = record { allowed = allowed; fits = omega (arith, need_is, h.fits, room_is, room) };
+        ends = rw (memory_is, step-performs before old.contents place p f h.names old.meta input old.written, h.means) refl;
+        counts = record { steps = steps_is; peak = peak_is ∙ ap (max m.peak) (sym need_is) };
+        source = same;
+        written = refl;
+      }
+
+  -- the source failed after it gave some bytes
+  pub tried-failed : (old : Scene) (new : Contents) (left : Stream) (given : Text) (needed : ℕ) → Performs old (failing given) (Ends InputFailed) needed → old.source.bytes ≡ given ++ left.bytes → old.source.ended ≡ false → TriedCall place old (Some InputFailed) needed (record old { contents = new; source = left })
+  tried-failed old new left given needed h gave open_still = λ before p m room_is memory_is allowed.
+      let need_is : need (failing_state_of (moment m old.source old.written) given) ≡ needed = rw memory_is (need-performs before old.contents place p f h.names old.meta (failing given) old.written ∙ sym h.needs) in
+      let room = room-performs before old.contents place p in
+      let stops : StopsAtInput (moment m old.source old.written) _ given = record {
+        consumed = gave;
+        not_ended = open_still;
+        may = record { allowed = allowed; fits = omega (arith, need_is, h.fits, room_is, room) };
+        ends = rw (memory_is, step-performs before old.contents place p f h.names old.meta (failing given) old.written, h.means) refl;
+        counts = record { steps = omega arith; peak = ap (max m.peak) (sym need_is) };
+        written = refl;
+      } in
+      (given, stops)
+
+  -- the sink failed
+  pub tried-broken : (old : Scene) (put rest : Text) (needed : ℕ) (answer : Answer) → Performs old (ending old.source.bytes) (Gives answer) needed → answer.printed ≡ put ++ rest → put ++ rest ≢ [] → TriedCall place old (Some OutputFailed) needed (record old { written = old.written ++ put })
+  tried-broken old put rest needed answer h prints some = λ before p m room_is memory_is allowed.
+      let w = old.contents in
+      let input = ending old.source.bytes in
+      let need_is : need (state_of (moment m old.source old.written)) ≡ needed = rw memory_is (need-performs before w place p f h.names old.meta input old.written ∙ sym h.needs) in
+      let room = room-performs before w place p in
+      let after = memory_of old.meta (closed w place) in
+      let next : State = record { memory = deliver (mode_at w.neutral place) answer.forced answer.value (record after { forms = answer.world.forms; meta = answer.world.meta }); input = answer.world.input; output = old.written ++ answer.printed } in
+      let stops : StopsAtOutput (moment m old.source old.written) _ next put rest = record {
+        may = record { allowed = allowed; fits = omega (arith, need_is, h.fits, room_is, room) };
+        goes = rw (memory_is, step-performs before w place p f h.names old.meta input old.written, h.means) refl;
+        prints = ap (λ t. old.written ++ t) prints;
+        some = some;
+        counts = record { steps = omega arith; peak = ap (max m.peak) (sym need_is) };
+        written = refl;
+      } in
+      (next, (put, (rest, stops)))
+
+  -- a call with a null value, which reads nothing
+  pub tried-null : (old : Scene) (meta : ℕ) (put written : Text) → IsCall old.contents place f → meaning f (arguments_at old.contents.neutral place) (world_in old (ending old.source.bytes)) ≡ Gives (record { value = []; forced = false; world = world old.contents.forms meta (ending old.source.bytes); printed = put }) → 0 ≡ built f (arguments_at old.contents.neutral place) (world_in old (ending old.source.bytes)) → reads_last f (world_in old (ending old.source.bytes)) ≡ false → written ≡ old.written ++ put → TriedCall place old None (used old.contents + 0) (scene (closed old.contents place) meta old.source written)
+  tried-null old meta put written call means none_built no_read prints =
+      tried-answer old _ _ (used old.contents + 0)
+      (record { names = call.names; means = means; needs = ap (λ n. used old.contents + n) none_built; fits = let fits = call.sound.fits in omega arith })
+      (record { stands = sym (delivered-null (mode_at old.contents.neutral place) place old.contents); world = refl; prints = prints; stays_ended = λ e. e; read_all = λ reads. absurd (true≢false (sym reads ∙ no_read)) })
 
 pub delivered-active : (mode : Mode) (forced : Bool) (value : Text) (place : ℕ) (w : Contents) → (forced || is_active_mode mode) ≡ true → delivered mode forced value place w ≡ record w { active = flat_text value ++ w.active; neutral = take place w.neutral }
 delivered-active Active forced value place w h = refl
@@ -167,11 +165,11 @@ delivered-neutral NeutralMode true value place w h = absurd cc
 delivered-neutral Active forced value place w h = absurd (true≢false (sym (or_right forced true refl) ∙ h))
 
 -- a value that leaves the end of the neutral string with its call is delivered
-pub moved-delivered : (mode : Mode) (forced scanned : Bool) (value : List Cell) (place from : ℕ) (w : Contents) → All IsByte value → place ≤ from → scanned ≡ (forced || is_active_mode mode) → (if scanned then record w { active = value ++ w.active; neutral = take place w.neutral } else record w { neutral = take place w.neutral ++ value }) ≡ delivered mode forced (text_of_cells value) place (record w { neutral = take from w.neutral })
-moved-delivered mode forced true value place from w bytes order is =
-    sym (rw (delivered-active mode forced (text_of_cells value) place (record w { neutral = take from w.neutral }) (sym is), flat-bytes value bytes, take-take place from w.neutral order) refl)
-moved-delivered mode forced false value place from w bytes order is =
-    sym (rw (delivered-neutral mode forced (text_of_cells value) place (record w { neutral = take from w.neutral }) (sym is), flat-bytes value bytes, take-take place from w.neutral order) refl)
+pub moved-delivered : (mode : Mode) (scanned : Bool) (value : List Cell) (place from : ℕ) (w : Contents) → All IsByte value → place ≤ from → scanned ≡ is_active_mode mode → (if scanned then record w { active = value ++ w.active; neutral = take place w.neutral } else record w { neutral = take place w.neutral ++ value }) ≡ delivered mode false (text_of_cells value) place (record w { neutral = take from w.neutral })
+moved-delivered mode true value place from w bytes order is =
+    sym (rw (delivered-active mode false (text_of_cells value) place (record w { neutral = take from w.neutral }) (sym is), flat-bytes value bytes, take-take place from w.neutral order) refl)
+moved-delivered mode false value place from w bytes order is =
+    sym (rw (delivered-neutral mode false (text_of_cells value) place (record w { neutral = take from w.neutral }) (sym is), flat-bytes value bytes, take-take place from w.neutral order) refl)
 
 -- the function's name and what follows it
 pub whole-arguments : (neutral : List Cell) (place : ℕ) (rest : List Text) → rest ≡ drop 1 (arguments_at neutral place) → argument (arguments_at neutral place) 0 ∷ rest ≡ arguments_at neutral place
@@ -187,83 +185,90 @@ no_comma_from-reads ReadString h = absurd cc
 no_comma_from-reads _ h = refl
 
 -- a value that stands behind what was there is delivered
-pub delivered-value : (w mid new : Contents) (place end : ℕ) (value : Text) (forced : Bool) (forms : List Form) → IsLastCall w.neutral place → mid ≡ record w { forms = forms; neutral = w.neutral ++ flat_text value } → end ≡ length w.neutral → new ≡ delivered (mode_at mid.neutral place) forced (text_of_cells (drop end mid.neutral)) place (record mid { neutral = take end mid.neutral }) → new ≡ delivered (mode_at w.neutral place) forced value place (record w { forms = forms })
-delivered-value w mid new place end value forced forms innermost stands end_is new_is =
-    rw (new_is, stands, end_is, drop-append_seam w.neutral (flat_text value), text_of-flat value, take-append_seam w.neutral (flat_text value), get_or_append_left w.neutral (flat_text value) (Byte 0) place innermost.mark.0) refl
+pub delivered-value : (w mid : Contents) (place : ℕ) (value : Text) (forms : List Form) → IsLastCall w.neutral place → mid ≡ record w { forms = forms; neutral = w.neutral ++ flat_text value } → value_delivered place (length w.neutral) mid ≡ delivered (mode_at w.neutral place) false value place (record w { forms = forms })
+delivered-value w mid place value forms innermost stands =
+    rw (stands, drop-append_seam w.neutral (flat_text value), text_of-flat value, take-append_seam w.neutral (flat_text value), get_or_append_left w.neutral (flat_text value) (Byte 0) place innermost.mark.0) refl
 
-module _ (w mid : Contents) (place : ℕ) (f : Function) (rest : List Text) (scanned : Bool) (names : function_named (argument (arguments_at w.neutral place) 0) ≡ Some f) (innermost : IsLastCall w.neutral place) (no_comma_from : is_self_contained f ≡ true) (rest_is : rest ≡ drop 1 (arguments_at w.neutral place)) (mode_is : scanned ≡ is_active_mode (mode_at w.neutral place)) where
+module _ (s : Scene) (mid : Contents) (place : ℕ) (f : Function) (rest : List Text) (scanned : Bool) (names : function_at s.contents.neutral place ≡ Some f) (innermost : IsLastCall s.contents.neutral place) (no_comma_from : is_self_contained f ≡ true) (rest_is : rest ≡ drop 1 (arguments_at s.contents.neutral place)) (mode_is : scanned ≡ is_active_mode (mode_at s.contents.neutral place)) where
+  abbrev named_args : List Text
+  named_args = argument (arguments_at s.contents.neutral place) 0 ∷ rest
+
+  abbrev input : Input
+  input = ending s.source.bytes
+
   -- a call with a value, by the arguments that follow its name
-  no_comma_from-tried : (new : Contents) (needed : ℕ) (value : Text) (forced : Bool) (forms : List Form) (meta : ℕ) (source : Stream) (written : Text) → meaning_of f (argument (arguments_at w.neutral place) 0 ∷ rest) (world w.forms meta (ending source.bytes)) ≡ Gives (record { value = value; forced = forced; world = world forms meta (ending source.bytes); printed = [] }) → new ≡ delivered (mode_at w.neutral place) forced value place (record w { forms = forms }) → needed ≡ used w + built (Some f) (argument (arguments_at w.neutral place) 0 ∷ rest) (world w.forms meta (ending source.bytes)) → needed ≤ w.room → TriedCall place (scene w meta source written) None needed (scene new meta source written)
-  no_comma_from-tried new needed value forced forms meta source written means stands needs fits =
-      let all = whole-arguments w.neutral place rest rest_is in
-      tried-quiet w new place (Some f) meta meta source source written needed value forced forms names
+  no_comma_from-tried : (new : Contents) (needed : ℕ) (value : Text) (forced : Bool) (forms : List Form) → meaning_of f named_args (world_in s input) ≡ Gives (record { value = value; forced = forced; world = world forms s.meta input; printed = [] }) → new ≡ delivered (mode_at s.contents.neutral place) forced value place (record s.contents { forms = forms }) → needed ≡ used s.contents + built (Some f) named_args (world_in s input) → needed ≤ s.contents.room → TriedCall place s None needed (record s { contents = new })
+  no_comma_from-tried new needed value forced forms means stands needs fits =
+      let all = whole-arguments s.contents.neutral place rest rest_is in
+      tried-answer place (Some f) s (record s { contents = new }) _ needed
+      (record { names = names; means = ap (λ args. meaning_of f args (world_in s input)) (sym all) ∙ means; needs = needs ∙ ap (λ args. used s.contents + built (Some f) args (world_in s input)) all; fits = fits })
       (record {
-        means = ap (λ args. meaning_of f args (world w.forms meta (ending source.bytes))) (sym all) ∙ means;
         stands = stands;
-        needs = needs ∙ ap (λ args. used w + built (Some f) args (world w.forms meta (ending source.bytes))) all;
-        fits = fits;
+        world = refl;
+        prints = sym (append-nil s.written);
         stays_ended = λ e. e;
-        read_all = λ reads. absurd (let none = ap (λ b. b && not (list_any (λ c. c == meta) source.bytes)) (no_comma_from-reads f no_comma_from) in cc);
+        read_all = λ reads. absurd (let none = ap (λ b. b && not (list_any (λ c. c == s.meta) s.source.bytes)) (no_comma_from-reads f no_comma_from) in cc);
       })
 
   -- a call that builds a value which stands at the end of neutral
-  pub tried-value : (new : Contents) (end needed : ℕ) (value : Text) (forced : Bool) → IsValue f (argument (arguments_at w.neutral place) 0 ∷ rest) w mid forced value → end ≡ length w.neutral → new ≡ delivered (mode_at mid.neutral place) forced (text_of_cells (drop end mid.neutral)) place (record mid { neutral = take end mid.neutral }) → needed ≡ used w + (length mid.neutral - end) → (meta : ℕ) (source : Stream) (written : Text) → TriedCall place (scene w meta source written) None needed (scene new meta source written)
-  tried-value new end needed value forced is end_is new_is needs meta source written =
-      let long : length mid.neutral - end ≡ length value = rw (is.stands, end_is, length-append w.neutral (flat_text value), length-map value Byte) (omega arith) in
-      no_comma_from-tried new needed value forced mid.forms meta source written (is.valued.means meta (ending source.bytes)) (delivered-value w mid new place end value forced mid.forms innermost is.stands end_is new_is)
-      (needs ∙ ap (λ n. used w + n) (long ∙ sym (is.valued.builds meta (ending source.bytes)))) (omega arith)
+  tried-value : (value : Text) → IsValue f named_args s.contents mid false value → TriedCall place s None (used s.contents + (length mid.neutral - length s.contents.neutral)) (record s { contents = value_delivered place (length s.contents.neutral) mid })
+  tried-value value is =
+      let w = s.contents in
+      let long : length mid.neutral - length w.neutral ≡ length value = rw (is.stands, length-append w.neutral (flat_text value), length-map value Byte) (omega arith) in
+      no_comma_from-tried _ _ value false mid.forms (is.valued.means s.meta input) (delivered-value w mid place value mid.forms innermost is.stands)
+      (ap (λ n. used w + n) (long ∙ sym (is.valued.builds s.meta input))) (omega arith)
 
   -- a call whose value stands before the active string already
-  pub tried-placed : (value : Text) (forced : Bool) (size : ℕ) → IsPlaced f (argument (arguments_at w.neutral place) 0 ∷ rest) scanned w mid forced value size → (meta : ℕ) (source : Stream) (written : Text) → TriedCall place (scene w meta source written) None (used w + size) (scene (closed mid place) meta source written)
-  tried-placed value forced size is meta source written =
+  tried-placed : (value : Text) (forced : Bool) (size : ℕ) → IsPlaced f named_args scanned s.contents mid forced value size → TriedCall place s None (used s.contents + size) (record s { contents = closed mid place })
+  tried-placed value forced size is =
+      let w = s.contents in
       let goes : (forced || is_active_mode (mode_at w.neutral place)) ≡ true = ap (λ b. forced || b) (sym mode_is) ∙ is.goes in
-      no_comma_from-tried (closed mid place) (used w + size) value forced mid.forms meta source written (is.valued.means meta (ending source.bytes))
+      no_comma_from-tried (closed mid place) (used w + size) value forced mid.forms (is.valued.means s.meta input)
       (ap (λ (c : Contents). closed c place) is.stands ∙ sym (delivered-active (mode_at w.neutral place) forced value place (record w { forms = mid.forms }) goes))
-      (ap (λ n. used w + n) (sym is.long ∙ sym (is.valued.builds meta (ending source.bytes)))) is.fits
+      (ap (λ n. used w + n) (sym is.long ∙ sym (is.valued.builds s.meta input))) is.fits
 
   -- a call whose value stands before the active string until it moves to the neutral one
-  pub tried-held : (value : Text) (size : ℕ) → IsHeld f (argument (arguments_at w.neutral place) 0 ∷ rest) scanned w mid value size → (meta : ℕ) (source : Stream) (written : Text) → TriedCall place (scene w meta source written) None (used w + size) (scene (settled (Unscanned size) place (length w.neutral) mid) meta source written)
-  tried-held value size is meta source written =
+  tried-held : (value : Text) (size : ℕ) → IsHeld f named_args scanned s.contents mid value size → TriedCall place s None (used s.contents + size) (record s { contents = settled (Unscanned size) place (length s.contents.neutral) mid })
+  tried-held value size is =
+      let w = s.contents in
       let goes : (false || is_active_mode (mode_at w.neutral place)) ≡ false = sym mode_is ∙ is.stays in
       let long : length (flat_text value) ≡ size = length-map value Byte ∙ is.long in
       let front : take size (flat_text value ++ w.active) ≡ flat_text value = ap (λ n. take n (flat_text value ++ w.active)) (sym long) ∙ take-append_seam (flat_text value) w.active in
       let left : drop size (flat_text value ++ w.active) ≡ w.active = ap (λ n. drop n (flat_text value ++ w.active)) (sym long) ∙ drop-append_seam (flat_text value) w.active in
-      no_comma_from-tried (settled (Unscanned size) place (length w.neutral) mid) (used w + size) value false mid.forms meta source written (is.valued.means meta (ending source.bytes))
+      no_comma_from-tried (settled (Unscanned size) place (length w.neutral) mid) (used w + size) value false mid.forms (is.valued.means s.meta input)
       (ap (λ (c : Contents). settled (Unscanned size) place (length w.neutral) c) is.stands
       ∙ ap (λ cells. record w { forms = mid.forms; neutral = take place w.neutral ++ cells; active = drop size (flat_text value ++ w.active) }) front
       ∙ ap (λ cells. record w { forms = mid.forms; neutral = take place w.neutral ++ flat_text value; active = cells }) left
       ∙ sym (delivered-neutral (mode_at w.neutral place) false value place (record w { forms = mid.forms }) goes))
-      (ap (λ n. used w + n) (sym is.long ∙ sym (is.valued.builds meta (ending source.bytes)))) is.fits
+      (ap (λ n. used w + n) (sym is.long ∙ sym (is.valued.builds s.meta input))) is.fits
 
   -- a call that builds a form
-  pub tried-defined : (new : Contents) (needed cells : ℕ) → IsDefined f (argument (arguments_at w.neutral place) 0 ∷ rest) w mid cells → new ≡ closed mid place → needed ≡ used w + cells → (meta : ℕ) (source : Stream) (written : Text) → TriedCall place (scene w meta source written) None needed (scene new meta source written)
-  tried-defined new needed cells is new_is needs meta source written =
-      no_comma_from-tried new needed [] false mid.forms meta source written (is.means meta (ending source.bytes))
-      (new_is ∙ ap (λ (c : Contents). record c { forms = mid.forms; neutral = take place c.neutral }) is.stands ∙ sym (delivered-null (mode_at w.neutral place) place (record w { forms = mid.forms })))
-      (needs ∙ ap (λ n. used w + n) (sym (is.builds meta (ending source.bytes)))) (omega arith)
+  tried-defined : (cells : ℕ) → IsDefined f named_args s.contents mid cells → TriedCall place s None (used s.contents + cells) (record s { contents = closed mid place })
+  tried-defined cells is =
+      let w = s.contents in
+      no_comma_from-tried (closed mid place) (used w + cells) [] false mid.forms (is.means s.meta input)
+      (ap (λ (c : Contents). record c { forms = mid.forms; neutral = take place c.neutral }) is.stands ∙ sym (delivered-null (mode_at w.neutral place) place (record w { forms = mid.forms })))
+      (ap (λ n. used w + n) (sym (is.builds s.meta input))) (omega arith)
 
   -- a call that doesn't fit
-  pub tried-too-much : (new : Contents) → Makes f (argument (arguments_at w.neutral place) 0 ∷ rest) scanned w Full mid → (meta : ℕ) (source : Stream) (written : Text) → TriedCall place (scene w meta source written) (Some Workspace) 0 (scene new meta source written)
-  tried-too-much new is meta source written =
-      let all = whole-arguments w.neutral place rest rest_is in
-      let here = world w.forms meta (ending source.bytes) in
-      let same = ap (λ args. built (Some f) args here) all in
-      let full = is meta (ending source.bytes) in
-      tried-full w new place (Some f) meta source source written 0 names (omega arith)
+  tried-too-much : (new : Contents) → Makes f named_args scanned s.contents Full mid → TriedCall place s (Some Workspace) 0 (record s { contents = new })
+  tried-too-much new is =
+      let same = ap (λ args. built (Some f) args (world_in s input)) (whole-arguments s.contents.neutral place rest rest_is) in
+      let full = is s.meta input in
+      tried-full place (Some f) s new s.source 0 names (omega arith)
 
   -- whatever the function makes of the call
-  pub answers-made : (call_result : CallResult) → Makes f (argument (arguments_at w.neutral place) 0 ∷ rest) scanned w call_result mid → (meta : ℕ) (source : Stream) (written : Text) → AnswersCall place (scene w meta source written) call_result (scene mid meta source written)
-  answers-made Full is meta source written = tried-too-much mid is meta source written
-  answers-made AtEnd is meta source written = tried-value (settled AtEnd place (length w.neutral) mid) (length w.neutral) (used w + (length mid.neutral - length w.neutral)) is.0 false is.1 refl refl refl meta source written
-  answers-made (InFront size) is meta source written = tried-placed is.0 is.1.0 size is.1.1 meta source written
-  answers-made (Unscanned size) is meta source written = tried-held is.0 size is.1 meta source written
-  answers-made (Null cells) is meta source written = tried-defined (closed mid place) (used w + cells) cells is refl refl meta source written
-  answers-made (Over fate) is meta source written = absurd is
+  pub answers-made : (call_result : CallResult) → Makes f named_args scanned s.contents call_result mid → AnswersCall place s call_result (record s { contents = mid })
+  answers-made Full is = tried-too-much mid is
+  answers-made AtEnd is = tried-value is.0 is.1
+  answers-made (InFront size) is = tried-placed is.0 is.1.0 size is.1.1
+  answers-made (Unscanned size) is = tried-held is.0 size is.1
+  answers-made (Null cells) is = tried-defined cells is
+  answers-made (Over fate) is = absurd is
 
 -- a call of no function
-pub answers-nothing : (w : Contents) (place : ℕ) → function_named (argument (arguments_at w.neutral place) 0) ≡ None → IsSound w → (meta : ℕ) (source : Stream) (written : Text) → AnswersCall place (scene w meta source written) (Null 0) (scene w meta source written)
-answers-nothing w place names sound meta source written =
-    quiet-null w place None meta meta source written names sound refl refl refl
+pub answers-nothing : (s : Scene) (place : ℕ) → IsCall s.contents place None → AnswersCall place s (Null 0) s
+answers-nothing s place call = tried-null place None s s.meta [] s.written call refl refl refl (sym (append-nil s.written))
 
 -- no cell stands at the place
 pub mode-none : (neutral : List Cell) (place : ℕ) → None ≡ slice_get neutral place → true ≡ is_active_mode (mode_at neutral place)

@@ -1,6 +1,6 @@
 -- The calls that print, change the meta character and stop.
-use Rattle.trac_core.proofs.Imports.{◌≡◌, ◌≢◌, ℕ, List, [], ◌∷◌, ◌++◌, drop, false, length, nat_lt, Some, None, refl, sym, ap, ◌∙◌, arith, slice_get, get_or-drop, PrintString, ChangeMeta, Halt, Halted, OutputFailed, Text, argument, World, change_meta, silent, meaning_of, value_length, Contents, used, Stream, arguments_at, world, ending, Null, Over, scene, IsCall, AnswersCall}
-use Rattle.trac_core.proofs.Performing.{tried-null, quiet-null, tried-end, tried-broken}
+use Rattle.trac_core.proofs.Imports.{◌≡◌, ◌≢◌, ℕ, List, [], ◌∷◌, ◌++◌, drop, false, length, nat_lt, Some, None, refl, sym, ap, ◌∙◌, arith, slice_get, get_or-drop, append-nil, PrintString, ChangeMeta, Halt, Halted, OutputFailed, Text, argument, World, change_meta, silent, meaning_of, value_length, Contents, used, Stream, arguments_at, world, ending, Null, Over, scene, IsCall, AnswersCall}
+use Rattle.trac_core.proofs.Performing.{tried-null, tried-end, tried-broken}
 
 -- the first argument after the name
 pub argument-one : (args rest : List Text) → rest ≡ drop 1 args → argument rest 0 ≡ argument args 1
@@ -17,17 +17,17 @@ module _ (w : Contents) (place : ℕ) where
   pub answers-print : IsCall w place (Some PrintString) → (meta : ℕ) (source : Stream) (written : Text) → AnswersCall place (scene w meta source written) (Null 0) (scene w meta source (written ++ argument (arguments_at w.neutral place) 1))
   unfolding meaning_of
   answers-print call meta source written =
-      tried-null w place (Some PrintString) meta meta source written (argument (arguments_at w.neutral place) 1) call.names call.sound refl refl refl
+      tried-null place (Some PrintString) (scene w meta source written) meta (argument (arguments_at w.neutral place) 1) _ call refl refl refl refl
 
   pub answers-print-broken : IsCall w place (Some PrintString) → (meta : ℕ) (source : Stream) (written put rest : Text) → argument (arguments_at w.neutral place) 1 ≡ put ++ rest → put ++ rest ≢ [] → AnswersCall place (scene w meta source written) (Over OutputFailed) (scene w meta source (written ++ put))
   unfolding meaning_of
   answers-print-broken call meta source written put rest parts some =
-      tried-broken w w place (Some PrintString) meta source written put rest (used w) _ call.names refl parts some (omega arith) (omega arith)
+      tried-broken place (Some PrintString) (scene w meta source written) put rest (used w) _ (record { names = call.names; means = refl; needs = omega arith; fits = call.sound.fits }) parts some
 
   pub answers-halt : IsCall w place (Some Halt) → (meta : ℕ) (source : Stream) (written : Text) → AnswersCall place (scene w meta source written) (Over Halted) (scene w meta source written)
   unfolding meaning_of
   answers-halt call meta source written = λ old p m room_is memory_is allowed.
-      tried-end Halted w w place (Some Halt) meta source source written (used w) call.names refl (omega arith) (omega arith) refl old p m room_is memory_is allowed _ refl refl
+      tried-end place (Some Halt) Halted (scene w meta source written) source (used w) (record { names = call.names; means = refl; needs = omega arith; fits = call.sound.fits }) refl old p m room_is memory_is allowed _ refl refl
 
   -- the meta character after a text was given
   first-meta : (meta meta' : ℕ) (text : Text) → ((c : ℕ) → slice_get text 0 ≡ Some c → meta' ≡ c) → (slice_get text 0 ≡ None → meta' ≡ meta) → (world' : World) → change_meta text (record world' { meta = meta }) ≡ silent (record world' { meta = meta' })
@@ -38,4 +38,4 @@ module _ (w : Contents) (place : ℕ) where
   unfolding meaning_of
   answers-meta meta meta' call some none source written =
       let means = first-meta meta meta' (argument (arguments_at w.neutral place) 1) some none (world w.forms meta (ending source.bytes)) in
-      quiet-null w place (Some ChangeMeta) meta meta' source written call.names call.sound means (sym (ap value_length means)) refl
+      tried-null place (Some ChangeMeta) (scene w meta source written) meta' [] written call means (sym (ap value_length means)) refl (sym (append-nil written))

@@ -5,21 +5,32 @@ use Rattle.trac_core.proofs.Imports.{None, Null, Mode, Active, take, append-nil,
 use Rattle.trac_core.proofs.Imports.{◌≡◌, ℕ, ◌+◌, ◌-◌, ◌<◌, ◌≤◌, true, false, not, List, [], ◌∷◌, ◌++◌, length, drop, Some, refl, sym, ap, ◌∙◌, arith, append_assoc, length-append, ⊎_elim, eq-eqb, ◌==◌, before_first, position_or_len, list_any, length-map, cases_lt, ReadString, ReadCharacter, InputEnded, InputFailed, Text, World, meaning_of, built, before_meta, from_meta, read_string, reads_last, read_all, valued, with_input, Byte, flat_text, Contents, used, IsSound, Stream, has_byte, Reads, arguments_at, world, ending, failing, Full, AtEnd, Over, scene, IsCall, settled, AnswersCall, IsValueFrom, TakesFrom, or_parts}
 use Rattle.trac_functions.proofs.PutCharacters.{used-with}
 use Rattle.trac_core.proofs.MetaCharacters.{position-past, before-none, from-none, before-at, from-at, length-before, any-at}
-use Rattle.trac_core.proofs.Performing.{tried-quiet, tried-full, tried-end, tried-failed, delivered-value, text-stands}
+use Rattle.trac_core.proofs.Performing.{tried-answer, tried-full, tried-end, tried-failed, delivered-value, text-stands}
 
--- the cells that are used after a text was read
-pub used-reads : (meta : ℕ) (w mid : Contents) (text : Text) → Reads meta w mid text → used mid ≡ used w + length text
-used-reads meta w mid text reads = ap used reads.pushed ∙ used-with w text
+-- a text was read behind what was there
+module _ (meta : ℕ) (w mid : Contents) (text : Text) (reads : Reads meta w mid text) where
+  -- the cells that are used then
+  pub used-reads : used mid ≡ used w + length text
+  used-reads = ap used reads.pushed ∙ used-with w text
 
-pub room-reads : (meta : ℕ) (w mid : Contents) (text : Text) → Reads meta w mid text → mid.room ≡ w.room
-room-reads meta w mid text reads = ap (λ (w : Contents). w.room) reads.pushed
+  pub room-reads : mid.room ≡ w.room
+  room-reads = ap (λ (w : Contents). w.room) reads.pushed
 
-pub neutral-reads : (meta : ℕ) (w mid : Contents) (text : Text) → Reads meta w mid text → length mid.neutral ≡ length w.neutral + length text
-neutral-reads meta w mid text reads = ap (λ (w : Contents). length w.neutral) reads.pushed ∙ length-append w.neutral (flat_text text) ∙ ap (λ n. length w.neutral + n) (length-map text Byte)
+  pub neutral-reads : length mid.neutral ≡ length w.neutral + length text
+  neutral-reads = ap (λ (w : Contents). length w.neutral) reads.pushed ∙ length-append w.neutral (flat_text text) ∙ ap (λ n. length w.neutral + n) (length-map text Byte)
 
--- the same, as a settled value counts them
-put-reads : (meta : ℕ) (w mid : Contents) (text : Text) → Reads meta w mid text → used w + (length mid.neutral - length w.neutral) ≡ used w + length text
-put-reads meta w mid text reads = omega (arith, neutral-reads meta w mid text reads)
+  -- the same, as a settled value counts them
+  put-reads : used w + (length mid.neutral - length w.neutral) ≡ used w + length text
+  put-reads = omega (arith, neutral-reads)
+
+  -- what a call of rs took from the source
+  pub reads-take : (last : Text) (old new : Stream) → IsSound mid → length last ≤ 1 → old.bytes ≡ text ++ (last ++ new.bytes) → TakesFrom w old new (text ++ last)
+  reads-take last old new sound short gave =
+      record { consumed = gave ∙ sym (append_assoc text last new.bytes); few = omega (arith, length-append text last, used-reads, room-reads, sound.fits) }
+
+  -- what was read stands as a value
+  pub reads-stands : IsSound mid → IsValueFrom (used w) (length w.neutral) mid
+  reads-stands sound = text-stands w mid w.forms text reads.pushed (omega (arith, used-reads, room-reads, sound.fits))
 
 -- a value of no characters is null
 null-delivered : (mode : Mode) (place from : ℕ) (w : Contents) → length w.neutral ≡ from → delivered mode false (text_of_cells (drop from w.neutral)) place (record w { neutral = take from w.neutral }) ≡ record w { neutral = take place w.neutral }
@@ -50,15 +61,14 @@ module _ (w mid : Contents) (place meta : ℕ) (text : Text) (call : IsCall w pl
   read-value source source' written before means stays_ended read_all =
       let here = world w.forms meta (ending source.bytes) in
       let room = room-reads meta w mid text reads in
-      tried-quiet w (settled AtEnd place (length w.neutral) mid) place (Some ReadString) meta meta source source' written (used w + (length mid.neutral - length w.neutral)) text false w.forms call.names
+      tried-answer place (Some ReadString) (scene w meta source written) _ _ (used w + (length mid.neutral - length w.neutral))
       (record {
+        names = call.names;
         means = ap (λ t. read_string t (from_meta here) here) before ∙ means;
-        stands = delivered-value w mid _ place (length w.neutral) text false w.forms call.innermost reads.pushed refl refl;
         needs = put-reads meta w mid text reads ∙ ap (λ t. used w + length t) (sym before);
         fits = omega (arith, put-reads meta w mid text reads, used-reads meta w mid text reads);
-        stays_ended = stays_ended;
-        read_all = read_all;
       })
+      (record { stands = delivered-value w mid place text w.forms call.innermost reads.pushed; world = refl; prints = sym (append-nil written); stays_ended = stays_ended; read_all = read_all })
 
   -- the meta character followed
   pub read-to-meta : (source source' : Stream) (written : Text) → source.bytes ≡ text ++ meta ∷ source'.bytes → source.ended ≡ false → AnswersCall place (scene w meta source written) AtEnd (scene mid meta source' written)
@@ -91,10 +101,14 @@ module _ (w mid : Contents) (place meta : ℕ) (text : Text) (call : IsCall w pl
       let text_is : text ≡ [] = nothing text none in
       let bytes_is : source.bytes ≡ [] = gave ∙ text_is in
       let room = room-reads meta w mid text reads in
-      tried-end InputEnded w new place (Some ReadString) meta source source' written (used new) call.names
-      (ap (λ bytes. meaning_of ReadString (arguments_at w.neutral place) (world w.forms meta (ending bytes))) bytes_is)
-      (same ∙ used-reads meta w mid text reads ∙ ap (λ n. used w + n) (none ∙ sym (ap (λ bytes. length (before_first (λ c. c == meta) bytes)) bytes_is)))
-      (omega arith) (none_left ∙ sym bytes_is) old p m room_is memory_is allowed _ refl refl
+      tried-end place (Some ReadString) InputEnded (scene w meta source written) source' (used new)
+      (record {
+        names = call.names;
+        means = ap (λ bytes. meaning_of ReadString (arguments_at w.neutral place) (world w.forms meta (ending bytes))) bytes_is;
+        needs = same ∙ used-reads meta w mid text reads ∙ ap (λ n. used w + n) (none ∙ sym (ap (λ bytes. length (before_first (λ c. c == meta) bytes)) bytes_is));
+        fits = omega arith;
+      })
+      (none_left ∙ sym bytes_is) old p m room_is memory_is allowed _ refl refl
     where
       nothing : (text : Text) → length text ≡ 0 → text ≡ []
       nothing [] e = refl
@@ -109,10 +123,14 @@ module _ (w mid : Contents) (place meta : ℕ) (text : Text) (call : IsCall w pl
       let before : before_meta here ≡ text = before-none p text reads.no_meta in
       let after : from_meta here ≡ [] = from-none p text reads.no_meta in
       let room = room-reads meta w mid text reads in
-      tried-failed w new place (Some ReadString) meta source source' written text (used new) call.names
-      (ap (λ t. read_string t (from_meta here) here) before ∙ ap (λ t. read_string text t here) after)
-      (same ∙ used-reads meta w mid text reads ∙ ap (λ t. used w + length t) (sym before))
-      (omega arith) gave open_still
+      tried-failed place (Some ReadString) (scene w meta source written) new source' text (used new)
+      (record {
+        names = call.names;
+        means = ap (λ t. read_string t (from_meta here) here) before ∙ ap (λ t. read_string text t here) after;
+        needs = same ∙ used-reads meta w mid text reads ∙ ap (λ t. used w + length t) (sym before);
+        fits = omega arith;
+      })
+      gave open_still
 
   -- no cell was free for the next byte
   pub read-full : (new : Contents) (source source' : Stream) (written : Text) (next : ℕ) → mid.room ≤ used mid → source.bytes ≡ text ++ next ∷ source'.bytes → has_byte meta (next ∷ []) ≡ false → AnswersCall place (scene w meta source written) Full (scene new meta source' written)
@@ -123,14 +141,7 @@ module _ (w mid : Contents) (place meta : ℕ) (text : Text) (call : IsCall w pl
       let long : length (before_meta here) ≡ position_or_len p (text ++ next ∷ source'.bytes) = ap (λ t. length (before_first p t)) gave ∙ length-before p (text ++ next ∷ source'.bytes) in
       let room = room-reads meta w mid text reads in
       let cells = used-reads meta w mid text reads in
-      tried-full w new place (Some ReadString) meta source source' written 0 call.names (omega arith)
-
--- what a call of rs took from the source
-pub reads-take : (meta : ℕ) (w mid : Contents) (text last : Text) (source source' : Stream) → Reads meta w mid text → IsSound mid → length last ≤ 1 → source.bytes ≡ text ++ (last ++ source'.bytes) → TakesFrom w source source' (text ++ last)
-reads-take meta w mid text last source source' reads sound short gave =
-    let room = room-reads meta w mid text reads in
-    let cells = used-reads meta w mid text reads in
-    record { consumed = gave ∙ sym (append_assoc text last source'.bytes); few = omega (arith, length-append text last) }
+      tried-full place (Some ReadString) (scene w meta source written) new source' 0 call.names (omega arith)
 
 -- ---- rc
 
@@ -144,41 +155,35 @@ module _ (w : Contents) (place meta : ℕ) (call : IsCall w place (Some ReadChar
       let room = ap (λ (w : Contents). w.room) pushed in
       let cells : used mid ≡ used w + 1 = ap used pushed ∙ omega arith in
       let one : length mid.neutral ≡ length w.neutral + 1 = ap (λ (w : Contents). length w.neutral) pushed ∙ long in
-      tried-quiet w (settled AtEnd place (length w.neutral) mid) place (Some ReadCharacter) meta meta source source' written (used w + (length mid.neutral - length w.neutral)) (byte ∷ []) false w.forms call.names
+      tried-answer place (Some ReadCharacter) (scene w meta source written) _ _ (used w + (length mid.neutral - length w.neutral))
       (record {
+        names = call.names;
         means = means;
-        stands = delivered-value w mid _ place (length w.neutral) (byte ∷ []) false w.forms call.innermost pushed refl refl;
         needs = (let more : used w + (length mid.neutral - length w.neutral) ≡ used w + 1 = omega arith in more) ∙ ap (λ bytes. used w + built (Some ReadCharacter) args (world w.forms meta (ending bytes))) (sym gave);
         fits = omega arith;
-        stays_ended = λ e. absurd cc;
-        read_all = λ e. absurd cc;
       })
+      (record { stands = delivered-value w mid place (byte ∷ []) w.forms call.innermost pushed; world = refl; prints = sym (append-nil written); stays_ended = λ e. absurd cc; read_all = λ e. absurd cc })
 
   pub character-full : (new : Contents) (byte : ℕ) (source source' : Stream) (written : Text) → w.room ≤ used w → source.bytes ≡ byte ∷ source'.bytes → AnswersCall place (scene w meta source written) Full (scene new meta source' written)
   unfolding meaning_of
   character-full new byte source source' written full gave =
       let args = arguments_at w.neutral place in
       let one : built (Some ReadCharacter) args (world w.forms meta (ending source.bytes)) ≡ 1 = ap (λ bytes. built (Some ReadCharacter) args (world w.forms meta (ending bytes))) gave in
-      tried-full w new place (Some ReadCharacter) meta source source' written 0 call.names (omega arith)
+      tried-full place (Some ReadCharacter) (scene w meta source written) new source' 0 call.names (omega arith)
 
   pub character-ended : (source source' : Stream) (written : Text) → source.bytes ≡ [] → source'.bytes ≡ [] → AnswersCall place (scene w meta source written) (Over InputEnded) (scene w meta source' written)
   unfolding meaning_of
   character-ended source source' written none none_left = λ old p m room_is memory_is allowed.
       let args = arguments_at w.neutral place in
       let zero_built : built (Some ReadCharacter) args (world w.forms meta (ending source.bytes)) ≡ 0 = ap (λ bytes. built (Some ReadCharacter) args (world w.forms meta (ending bytes))) none in
-      tried-end InputEnded w w place (Some ReadCharacter) meta source source' written (used w) call.names
-      (ap (λ bytes. meaning_of ReadCharacter args (world w.forms meta (ending bytes))) none)
-      (omega arith) (omega arith) (none_left ∙ sym none) old p m room_is memory_is allowed _ refl refl
+      tried-end place (Some ReadCharacter) InputEnded (scene w meta source written) source' (used w)
+      (record { names = call.names; means = ap (λ bytes. meaning_of ReadCharacter args (world w.forms meta (ending bytes))) none; needs = omega arith; fits = call.sound.fits })
+      (none_left ∙ sym none) old p m room_is memory_is allowed _ refl refl
 
   pub character-failed : (source source' : Stream) (written : Text) → source'.bytes ≡ source.bytes → source.ended ≡ false → AnswersCall place (scene w meta source written) (Over InputFailed) (scene w meta source' written)
   unfolding meaning_of
   character-failed source source' written same open_still =
-      tried-failed w w place (Some ReadCharacter) meta source source' written [] (used w) call.names refl (omega arith) (omega arith) (sym same) open_still
+      tried-failed place (Some ReadCharacter) (scene w meta source written) w source' [] (used w) (record { names = call.names; means = refl; needs = omega arith; fits = call.sound.fits }) (sym same) open_still
 
 pub not-less : (a b : ℕ) → (a < b → false ≡ true) → b ≤ a
 not-less a b h = ⊎_elim (λ lt. absurd (let e = h lt in cc)) (λ le. le) (cases_lt a b)
-
--- what was read stands as a value
-pub reads-stands : (meta : ℕ) (w mid : Contents) (text : Text) → IsSound mid → Reads meta w mid text → IsValueFrom (used w) (length w.neutral) mid
-reads-stands meta w mid text sound reads =
-    text-stands w mid w.forms text reads.pushed (omega (arith, used-reads meta w mid text reads, room-reads meta w mid text reads))

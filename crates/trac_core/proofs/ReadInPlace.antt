@@ -1,6 +1,6 @@
 -- The string of the idling procedure, read where the scanner would move the characters that it begins with: it is as if
 -- it had been read behind the call of `rs`, and then delivered.
-use Rattle.trac_core.proofs.Imports.{◌≡◌, ◌≢◌, ℕ, ◌+◌, ◌-◌, ◌<◌, ◌≤◌, true, false, [], ◌∷◌, ◌++◌, length, take, drop, All, Some, None, refl, sym, ap, ◌∙◌, subst, arith, codes, length-append, length-map, All-append, All-cons, All-take, drop-append-le, drop-append-add, InputEnded, InputFailed, Workspace, ReadString, Active, Text, Byte, Call, Comma, IsByte, IsNoCall, flat_text, text_of_cells, Contents, used, IsSound, Stream, has_byte, Reads, memory_of, performs, scene, IsCall, ClosesCall, Tried, TriedCall, settled, AtEnd, IsOrdinary, Advances, HasNoCommaFrom, is_comma, Option, Fate, Steps, input_failures, output_failures, inl, LeavesSource, PerformedWith, KeepsFormsAndMeta, counted}
+use Rattle.trac_core.proofs.Imports.{◌≡◌, ◌≢◌, ℕ, ◌+◌, ◌-◌, ◌<◌, ◌≤◌, true, false, [], ◌∷◌, ◌++◌, length, take, drop, All, Some, None, refl, sym, ap, ◌∙◌, subst, arith, codes, length-append, length-map, All-append, All-cons, All-take, drop-append-le, drop-append-add, InputEnded, InputFailed, Workspace, ReadString, Active, Text, Byte, Call, Comma, IsByte, IsNoCall, flat_text, text_of_cells, Contents, used, IsSound, Stream, has_byte, Reads, memory_of, performs, scene, IsCall, ClosesCall, Tried, TriedCall, settled, AtEnd, IsOrdinary, Advances, HasNoCommaFrom, is_comma, Option, Fate, Steps, input_failures, output_failures, inl, LeavesSource, PerformedWith, stage, KeepsFormsAndMeta, counted}
 use Rattle.std.proofs.Math.Seq.{take-append-add}
 use Rattle.std.proofs.lemmas.List.{take-append-le, length-take-le}
 use Rattle.trac_forms.specs.Contents.{IsStringCell}
@@ -152,7 +152,7 @@ module _ (w p : Contents) (text : Text) (meta : ℕ) (sound : IsSound w) (after 
   -- what was taken from the source
   pub in-place-takes : (last : Text) (source source' : Stream) → length last ≤ 1 → source.bytes ≡ text ++ (last ++ source'.bytes) → (taken : Text) × TakesAtMost (idling_begun w) source source' taken
   in-place-takes last source source' short gave =
-      let took = reads-take meta (called w) (read w text) text last source source' reads-read sound-read short gave in
+      let took = reads-take meta (called w) (read w text) text reads-read last source source' sound-read short gave in
       (text ++ last, record { consumed = took.consumed; few = let few = took.few in omega arith })
 
   -- what stands behind the call of `ps` are characters
@@ -242,7 +242,7 @@ module _ {S : Type 0} (tells : S → Type 0) (stream : S → Stream) (failures :
 
 -- where a source and a sink perform the calls
 module _ {I O L : Type 0} (tells : I → Type 0) (stream : I → Stream) (failures : I → ℕ) (told flushed : O → Type 0) (written : O → Text) (lent : O → L) (broken : O → ℕ) (outcome : StepOutcome) (w new : Contents) (most meta : ℕ) (source left : I) (sink : O) (r : ReadsInPlace tells stream failures outcome most meta (idling_begun w) source new left) where
-  reads-on : (scanned : ℕ) → Advances scanned r.middle new → ReadsOn (PerformedWith tells stream failures told flushed written lent broken) outcome scanned (idling_begun w) meta source sink new left
+  reads-on : (scanned : ℕ) → Advances scanned r.middle new → ReadsOn (PerformedWith tells stream failures told flushed written lent broken) outcome scanned (stage (idling_begun w) meta source sink) new left
   reads-on scanned scans =
       record {
         middle = r.middle;
@@ -264,13 +264,13 @@ module _ {I O L : Type 0} (tells : I → Type 0) (stream : I → Stream) (failur
       }
 
   -- the run goes on
-  pub goes-on : (scanned : ℕ) → outcome.fate ≡ None → length new.neutral ≡ 4 + scanned → ReadsOn (PerformedWith tells stream failures told flushed written lent broken) outcome scanned (idling_begun w) meta source sink new left
+  pub goes-on : (scanned : ℕ) → outcome.fate ≡ None → length new.neutral ≡ 4 + scanned → ReadsOn (PerformedWith tells stream failures told flushed written lent broken) outcome scanned (stage (idling_begun w) meta source sink) new left
   goes-on scanned none long =
       let s = r.scans none in
       let same : s.0 ≡ scanned = omega (arith, long, s.1.0) in
       reads-on scanned (subst (λ n. Advances n r.middle new) same s.1.1.1)
 
   -- or it ends
-  pub ends-here : (scanned : ℕ) → scanned ≡ 0 → outcome.fate ≢ None → ReadsOn (PerformedWith tells stream failures told flushed written lent broken) outcome scanned (idling_begun w) meta source sink new left
+  pub ends-here : (scanned : ℕ) → scanned ≡ 0 → outcome.fate ≢ None → ReadsOn (PerformedWith tells stream failures told flushed written lent broken) outcome scanned (stage (idling_begun w) meta source sink) new left
   ends-here scanned none some =
       reads-on scanned (subst (λ n. Advances n r.middle new) (sym none) (λ meta. ap (memory_of meta) (sym (r.ends some))))

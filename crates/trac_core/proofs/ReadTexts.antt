@@ -7,30 +7,31 @@ use Rattle.trac_devices.specs.Devices.{Gives}
 use Rattle.trac_core.specs.declared.streaming.ReadEnd.TheVariants as ended
 use Rattle.trac_core.specs.ReadTexts.{StreamsTo}
 
--- one text after another was read
-reads-join : (meta : ℕ) (first middle last : Contents) (text more : Text) → Reads meta first middle text → Reads meta middle last more → Reads meta first last (text ++ more)
-reads-join meta first middle last text more h k =
-    record {
-      pushed = rw (k.pushed, h.pushed, append_assoc first.neutral (flat_text text) (flat_text more), map-append ByteCell text more) refl;
-      no_meta = list_any-append (λ c. c == meta) text more ∙ ap (λ b. b || has_byte meta more) h.no_meta ∙ k.no_meta;
-    }
-
--- one more byte was read
-pub reads-more : (meta : ℕ) (first old new : Contents) (text : Text) (byte : ℕ) → Reads meta first old text → new ≡ record old { neutral = old.neutral ++ ByteCell byte ∷ [] } → eqb byte meta ≡ false → Reads meta first new (text ++ byte ∷ [])
-reads-more meta first old new text byte reads pushed differs =
-    reads-join meta first old new text (byte ∷ []) reads (record { pushed = pushed; no_meta = ap (λ b. b || false) differs })
-
 streams-join : (first middle last : Stream) (text more : Text) → Streams first text middle → Streams middle more last → Streams first (text ++ more) last
 streams-join first middle last text more h k =
     (h.0 ∙ ap (λ rest. text ++ rest) k.0 ∙ sym (append_assoc text more last.bytes), h.1 ∙ k.1)
 
--- the same with what both say of streams where those are told
-pub reads-on :
-    (meta : ℕ) (first middle last : Contents) (old now new : Stream) {Told More : Type 0} →
-    (text : Text) × (Reads meta first middle text × (Told → Streams old text now)) → (text : Text) × (Reads meta middle last text × (More → Streams now text new)) →
-    (Told → More) → (text : Text) × (Reads meta first last text × (Told → Streams old text new))
-reads-on meta first middle last old now new r s on =
-    (r.0 ++ s.0, (reads-join meta first middle last r.0 s.0 r.1.0 s.1.0, λ told. streams-join old now new r.0 s.0 (r.1.1 told) (s.1.1 (on told))))
+module _ (meta : ℕ) where
+  -- one text after another was read
+  reads-join : (first middle last : Contents) (text more : Text) → Reads meta first middle text → Reads meta middle last more → Reads meta first last (text ++ more)
+  reads-join first middle last text more h k =
+      record {
+        pushed = rw (k.pushed, h.pushed, append_assoc first.neutral (flat_text text) (flat_text more), map-append ByteCell text more) refl;
+        no_meta = list_any-append (λ c. c == meta) text more ∙ ap (λ b. b || has_byte meta more) h.no_meta ∙ k.no_meta;
+      }
+
+  -- one more byte was read
+  pub reads-more : (first old new : Contents) (text : Text) (byte : ℕ) → Reads meta first old text → new ≡ record old { neutral = old.neutral ++ ByteCell byte ∷ [] } → eqb byte meta ≡ false → Reads meta first new (text ++ byte ∷ [])
+  reads-more first old new text byte reads pushed differs =
+      reads-join first old new text (byte ∷ []) reads (record { pushed = pushed; no_meta = ap (λ b. b || false) differs })
+
+  -- the same with what both say of streams where those are told
+  pub reads-on :
+      (first middle last : Contents) (old now new : Stream) {Told More : Type 0} →
+      (text : Text) × (Reads meta first middle text × (Told → Streams old text now)) → (text : Text) × (Reads meta middle last text × (More → Streams now text new)) →
+      (Told → More) → (text : Text) × (Reads meta first last text × (Told → Streams old text new))
+  reads-on first middle last old now new r s on =
+      (r.0 ++ s.0, (reads-join first middle last r.0 s.0 r.1.0 s.1.0, λ told. streams-join old now new r.0 s.0 (r.1.1 told) (s.1.1 (on told))))
 
 module _ (old middle new : Stream) (text : Text) (given : Streams old text middle) where
   -- an answer after the text

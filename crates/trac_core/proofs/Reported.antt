@@ -19,17 +19,17 @@ course_to start bytes before now =
 abbrev run_with : Text → Text → Fate → ℕ → ℕ → Run
 run_with output left fate steps peak = record { output = output; left = left; fate = fate; steps = steps; peak = peak }
 
--- a run whose numbers are known, behind a course of `done` steps with the peak `top` and what they printed
-is-report : (done top : ℕ) (r : Run) (c : Course) (report : Report) (output left : Text) (steps peak : ℕ) → record r { output = c.before ++ r.output } ≡ run_with output left report.fate steps peak → c.after ≡ output → report.steps ≡ done + steps → report.peak ≡ max top peak → IsReportOf (after_steps done top r) c report
-is-report done top r c report output left steps peak e after steps_is peak_is =
-    record {
-      fate = sym (ap (λ (r : Run). r.fate) e);
-      steps = steps_is ∙ ap (λ n. done + n) (sym (ap (λ (r : Run). r.steps) e));
-      peak = peak_is ∙ ap (max top) (sym (ap (λ (r : Run). r.peak) e));
-      written = after ∙ sym (ap (λ (r : Run). r.output) e);
-    }
-
 module _ (start : MachineState) (bytes before : Text) (old new : Moment) (room_is : old.machine.room ≡ start.room) (allowance_is : old.machine.allowance ≡ start.allowance) (course : OnCourse start bytes before old) where
+  -- a run whose numbers are known, behind a course of the start's steps with its peak
+  is-report : (fate : Fate) (r : Run) (left : Text) (steps peak : ℕ) → record r { output = before ++ r.output } ≡ run_with old.written left fate steps peak → new.written ≡ old.written → new.machine.steps ≡ start.steps + steps → new.machine.peak ≡ max start.peak peak → IsReportOf (after_steps start.steps start.peak r) (course_to start bytes before new) (report_of fate new.machine)
+  is-report fate r left steps peak e after steps_is peak_is =
+      record {
+        fate = sym (ap (λ (r : Run). r.fate) e);
+        steps = steps_is ∙ ap (λ n. start.steps + n) (sym (ap (λ (r : Run). r.steps) e));
+        peak = peak_is ∙ ap (max start.peak) (sym (ap (λ (r : Run). r.peak) e));
+        written = after ∙ sym (ap (λ (r : Run). r.output) e);
+      }
+
   pub at-allowance : StopsAtAllowance old new → RanThrough (later_runs start) (course_to start bytes before new) (report_of Steps new.machine)
   at-allowance stop =
       let from = state_with start.memory (ending bytes) before in
@@ -37,7 +37,7 @@ module _ (start : MachineState) (bytes before : Text) (old new : Moment) (room_i
       let total : start.allowance - start.steps ≡ n = omega (arith, stop.used_up, allowance_is) in
       let whole = sym (run-from start.room (start.allowance - start.steps) start.memory (ending bytes) before) ∙ ap (λ k. run start.room k from) total ∙ reached_spent start.room from n course.peak (state_of old) course.whole in
       record {
-        is_report = is-report start.steps start.peak _ (course_to start bytes before new) (report_of Steps new.machine) old.written old.source.bytes n course.peak whole stop.written (omega arith) (omega arith);
+        is_report = is-report Steps _ old.source.bytes n course.peak whole stop.written (omega arith) (omega arith);
         left = ap (λ s. s.bytes) stop.source ∙ sym (ap (λ (r : Run). r.left) whole);
       }
 
@@ -46,7 +46,7 @@ module _ (start : MachineState) (bytes before : Text) (old new : Moment) (room_i
       let from = state_with start.memory (ending bytes) before in
       let n = course.count in
       let whole = sym (run-from start.room (start.allowance - start.steps) start.memory (ending bytes) before) ∙ reached_full start.room from n course.peak (state_of old) course.whole (start.allowance - start.steps) (omega arith) (omega arith) in
-      is-report start.steps start.peak _ (course_to start bytes before new) (report_of Workspace new.machine) old.written old.source.bytes n course.peak whole stop.written (omega arith) (omega arith)
+      is-report Workspace _ old.source.bytes n course.peak whole stop.written (omega arith) (omega arith)
 
   pub at-end : (fate : Fate) → counted fate ≡ 1 → EndsRun fate old new → RanThrough (later_runs start) (course_to start bytes before new) (report_of fate new.machine)
   at-end fate counts_one stop =
@@ -54,7 +54,7 @@ module _ (start : MachineState) (bytes before : Text) (old new : Moment) (room_i
       let n = course.count in
       let whole = sym (run-from start.room (start.allowance - start.steps) start.memory (ending bytes) before) ∙ reached_over start.room from n course.peak (state_of old) course.whole (start.allowance - start.steps) fate (omega arith) (omega arith) stop.ends in
       record {
-        is_report = is-report start.steps start.peak _ (course_to start bytes before new) (report_of fate new.machine) old.written old.source.bytes (n + counted fate) (max course.peak (need (state_of old))) whole stop.written (omega arith) (omega arith);
+        is_report = is-report fate _ old.source.bytes (n + counted fate) (max course.peak (need (state_of old))) whole stop.written (omega arith) (omega arith);
         left = stop.source ∙ sym (ap (λ (r : Run). r.left) whole);
       }
 
@@ -67,7 +67,7 @@ module _ (start : MachineState) (bytes before : Text) (old new : Moment) (room_i
         taken ++ given,
         record {
           consumed = course.consumed ∙ ap (λ t. taken ++ t) stop.consumed ∙ sym (append_assoc taken given new.source.bytes);
-          is_report = is-report start.steps start.peak _ (course_to start bytes before new) (report_of InputFailed new.machine) old.written given (n + 0) (max course.peak (need (failing_state_of old given))) whole stop.written (omega arith) (omega arith);
+          is_report = is-report InputFailed _ given (n + 0) (max course.peak (need (failing_state_of old given))) whole stop.written (omega arith) (omega arith);
         },
       )
 

@@ -1,5 +1,5 @@
 -- A run with a source and a sink, step by step beside the run of the definition.
-use Rattle.trac_core.proofs.Imports.{◌≡◌, ◌≢◌, ℕ, zero, suc, ◌+◌, ◌-◌, ◌≤◌, max, ◌⊎◌, ⊎_elim, inl, inr, [], Option, Some, None, unwrap_or, refl, sym, ap, ◌∙◌, subst, arith, Fate, Steps, OutputFailed, Text, Stream, Sent, Contents, used, memory_of, MachineState, Moment, moment, KeepsSettings, Resumes, LeavesMemory, StopsAtAllowance, input_failures, output_failures, Advances, StepsAlone, Standing, standing, PerformedWith, GoesBy, StepsBy, StopsBy, ◌<◌}
+use Rattle.trac_core.proofs.Imports.{◌≡◌, ◌≢◌, ℕ, zero, suc, ◌+◌, ◌-◌, ◌≤◌, max, ◌⊎◌, ⊎_elim, inl, inr, [], Option, Some, None, unwrap_or, refl, sym, ap, ◌∙◌, subst, arith, Fate, Steps, OutputFailed, Text, Stream, Sent, Contents, used, memory_of, MachineState, Moment, moment, KeepsSettings, Resumes, LeavesMemory, StopsAtAllowance, input_failures, output_failures, Advances, StepsAlone, Standing, standing, PerformedWith, Driven, GoesBy, StepsBy, StopsBy}
 use Rattle.trac_functions.proofs.FlatLemmas.{size-used}
 use Rattle.trac_core.proofs.Moments.{OnCourse, course-none, course-more}
 use Rattle.trac_core.proofs.Reported.{reported, left-behind, report_of, course_to}
@@ -85,18 +85,6 @@ module _ {I O L : Type 0} (tells : I → Type 0) (stream : I → Stream) (failur
       let step = step-with goes.0 now goes.1.1 in
       runs-performed start goes.0 now step.0 step.1 (runs-on n start goes.0 goes.1.0)
 
-  -- one step at most that was made
-  pub one-step : (n : ℕ) (old before new : Standing I O) (fate : Option Fate) → n ≤ 1 → old.machine.steps < old.machine.allowance → GoesBy (PerformedWith tells stream failures told flushed written lent broken) n old before → StopsBy (PerformedWith tells stream failures told flushed written lent broken) (λ memory. ⊥) 1 n before fate new → PerformedWith tells stream failures told flushed written lent broken old fate new × (fate ≡ None → n ≡ 1)
-  one-step zero old before new None few allowed goes why =
-      absurd (⊎_elim (λ wanted. omega arith) (⊎_elim (λ used. let here = subst (λ (s : Standing I O). s.machine.steps ≡ s.machine.allowance) goes used in omega arith) (λ no. no)) why.1)
-  one-step zero old before new (Some fate) few allowed goes why =
-      (subst (λ s. PerformedWith tells stream failures told flushed written lent broken s (Some fate) new) goes why.1, λ e. absurd cc)
-  one-step (suc zero) old before new None few allowed goes why =
-      let step = (step-with goes.0 before goes.1.1).1 in
-      (subst (λ new. PerformedWith tells stream failures told flushed written lent broken old None new) (sym why.0) (subst (λ s. PerformedWith tells stream failures told flushed written lent broken s None before) goes.1.0 step), λ e. refl)
-  one-step (suc zero) old before new (Some fate) few allowed goes why = absurd (let less = why.0 in omega arith)
-  one-step (suc (suc n)) old before new fate few allowed goes why = absurd (omega arith)
-
   -- the run ended with a fate, and is that of the definition
   pub record RunEnds (start last : Standing I O) (fate : Fate) : Type 0 where
     pub reports : tells start.source → told start.sink → Resumes start.machine fate (course_to start.machine (stream start.source).bytes (written start.sink) (moment_of last)) (report_of fate last.machine)
@@ -109,33 +97,42 @@ module _ {I O L : Type 0} (tells : I → Type 0) (stream : I → Stream) (failur
     pub kept : lent last.sink ≡ lent start.sink
 
   -- at its last step
-  pub run-ends : (start before last : Standing I O) (fate : Option Fate) (most n : ℕ) → start.machine.steps + most ≡ start.machine.allowance → (fate ≡ None → last.machine.steps ≡ start.machine.steps + n) → GoesBy (PerformedWith tells stream failures told flushed written lent broken) n start before → StopsBy (PerformedWith tells stream failures told flushed written lent broken) (λ memory. ⊥) most n before fate last → RunEnds start last (unwrap_or fate Steps)
-  run-ends start before last None most n most_is counts goes why =
-      let i = subst (RunsOn start) (sym why.0) (runs-on n start before goes) in
-      let used_up : last.machine.steps ≡ last.machine.allowance =
-      ⊎_elim (λ wanted. omega (arith, counts refl, wanted, most_is, i.allowance))
-      (⊎_elim (λ used. subst (λ (s : Standing I O). s.machine.steps ≡ s.machine.allowance) (sym why.0) used) (λ no. absurd no)) why.1 in
-      let stop : StopsAtAllowance (moment_of last) (moment_of last) = record { used_up = used_up; memory = refl; counts = record { steps = omega arith; peak = omega arith }; source = refl; written = refl } in
-      record {
-        reports = λ tells told. reported start.machine (stream start.source).bytes (written start.sink) (moment_of last) (moment_of last) i.room i.allowance (i.course tells told) Steps stop;
-        leaves = λ tells told. left-behind start.machine (stream start.source).bytes (written start.sink) (moment_of last) (moment_of last) (i.course tells told) Steps stop last.machine.memory (refl, refl) (λ e. refl);
-        input_failed = omega (arith, i.inputs);
-        output_failed = omega (arith, i.outputs);
-        sent = λ other. i.sent;
-        told_source = i.told_source;
-        told_sink = i.told_sink;
-        kept = i.kept;
-      }
-  run-ends start before last (Some fate) most n most_is counts goes why =
-      let i = runs-on n start before goes in
-      let h = why.1 in
-      record {
-        reports = λ tells told. reported start.machine (stream start.source).bytes (written start.sink) (moment_of before) (moment_of last) i.room i.allowance (i.course tells told) fate (h.answers (i.told_source tells) (i.told_sink told));
-        leaves = λ tells told. left-behind start.machine (stream start.source).bytes (written start.sink) (moment_of before) (moment_of last) (i.course tells told) fate (h.answers (i.told_source tells) (i.told_sink told)) last.machine.memory (h.keeps (λ e. absurd cc)) (λ e. absurd (h.unspent (ap Some e)));
-        input_failed = omega (arith, i.inputs, h.source.1);
-        output_failed = omega (arith, i.outputs, h.sink.1);
-        sent = λ other. sent-more told flushed written start.sink before.sink last.sink i.told_sink i.sent (h.sink.4 (λ e. other cc));
-        told_source = λ tells. h.source.0 (i.told_source tells);
-        told_sink = λ told. h.sink.0 (i.told_sink told);
-        kept = h.sink.3 ∙ i.kept;
-      }
+  pub run-ends : (start last : Standing I O) (most n : ℕ) → start.machine.steps + most ≡ start.machine.allowance → (last.machine.fate ≡ None → last.machine.steps ≡ start.machine.steps + n) → Driven (PerformedWith tells stream failures told flushed written lent broken) (λ memory. ⊥) most n start last → RunEnds start last (unwrap_or last.machine.fate Steps)
+  run-ends start last most n most_is counts driven = go last.machine.fate counts driven.1.1
+    where
+      before : Standing I O
+      before = driven.0
+
+      goes : GoesBy (PerformedWith tells stream failures told flushed written lent broken) n start before
+      goes = driven.1.0
+
+      go : (fate : Option Fate) → (fate ≡ None → last.machine.steps ≡ start.machine.steps + n) → StopsBy (PerformedWith tells stream failures told flushed written lent broken) (λ memory. ⊥) most n before fate last → RunEnds start last (unwrap_or fate Steps)
+      go None counts why =
+          let i = subst (RunsOn start) (sym why.0) (runs-on n start before goes) in
+          let used_up : last.machine.steps ≡ last.machine.allowance =
+          ⊎_elim (λ wanted. omega (arith, counts refl, wanted, most_is, i.allowance))
+          (⊎_elim (λ used. subst (λ (s : Standing I O). s.machine.steps ≡ s.machine.allowance) (sym why.0) used) (λ no. absurd no)) why.1 in
+          let stop : StopsAtAllowance (moment_of last) (moment_of last) = record { used_up = used_up; memory = refl; counts = record { steps = omega arith; peak = omega arith }; source = refl; written = refl } in
+          record {
+            reports = λ tells told. reported start.machine (stream start.source).bytes (written start.sink) (moment_of last) (moment_of last) i.room i.allowance (i.course tells told) Steps stop;
+            leaves = λ tells told. left-behind start.machine (stream start.source).bytes (written start.sink) (moment_of last) (moment_of last) (i.course tells told) Steps stop last.machine.memory (refl, refl) (λ e. refl);
+            input_failed = omega (arith, i.inputs);
+            output_failed = omega (arith, i.outputs);
+            sent = λ other. i.sent;
+            told_source = i.told_source;
+            told_sink = i.told_sink;
+            kept = i.kept;
+          }
+      go (Some fate) counts why =
+          let i = runs-on n start before goes in
+          let h = why.1 in
+          record {
+            reports = λ tells told. reported start.machine (stream start.source).bytes (written start.sink) (moment_of before) (moment_of last) i.room i.allowance (i.course tells told) fate (h.answers (i.told_source tells) (i.told_sink told));
+            leaves = λ tells told. left-behind start.machine (stream start.source).bytes (written start.sink) (moment_of before) (moment_of last) (i.course tells told) fate (h.answers (i.told_source tells) (i.told_sink told)) last.machine.memory (h.keeps (λ e. absurd cc)) (λ e. absurd (h.unspent (ap Some e)));
+            input_failed = omega (arith, i.inputs, h.source.1);
+            output_failed = omega (arith, i.outputs, h.sink.1);
+            sent = λ other. sent-more told flushed written start.sink before.sink last.sink i.told_sink i.sent (h.sink.4 (λ e. other cc));
+            told_source = λ tells. h.source.0 (i.told_source tells);
+            told_sink = λ told. h.sink.0 (i.told_sink told);
+            kept = h.sink.3 ∙ i.kept;
+          }

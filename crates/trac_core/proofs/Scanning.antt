@@ -29,10 +29,6 @@ pub some-active : (cells : List Cell) (c : ℕ) → slice_get (text_of_cells cel
 some-active [] c e = absurd cc
 some-active (cell ∷ cells) c e = omega arith
 
-pub none-active : (cells : List Cell) → slice_get (text_of_cells cells) 0 ≡ None → cells ≡ []
-none-active [] e = refl
-none-active (cell ∷ cells) e = absurd cc
-
 -- ---- a step by a rule
 
 module _ (old new : Contents) where

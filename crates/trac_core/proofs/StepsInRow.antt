@@ -79,13 +79,13 @@ one-step old new most scans same shorter some =
     record { passes = λ meta. passes-once _ _ (passes-scans meta old new scans same); some = omega arith; few = omega arith; shorter = shorter }
 
 -- the first character, which the rule was found by, and those of the same kind that follow it
-pub All-after : (P : ℕ → Type 0) (n : ℕ) (text : Text) (after : List Cell) (c : ℕ) → slice_get text 0 ≡ Some c → P c → n ≤ length after → text_of_cells after ≡ take (length after) (drop 1 text) → All P (take n (text_of_cells after)) → All P (take (1 + n) text)
-All-after P n text after c first is within part rest =
+pub All-after : (P : ℕ → Type 0) (n : ℕ) (text : Text) (after : List Cell) → (c : ℕ) × ((slice_get text 0 ≡ Some c) × P c) → n ≤ length after → text_of_cells after ≡ take (length after) (drop 1 text) → All P (take n (text_of_cells after)) → All P (take (1 + n) text)
+All-after P n text after first within part rest =
     let same : take n (text_of_cells after) ≡ take n (drop 1 text) = ap (take n) part ∙ take-take n (length after) (drop 1 text) within in
     let one : 1 + n ≡ suc n = omega arith in
     subst (λ k. All P (take k text)) (sym one)
-    (subst (λ t. All P (take (suc n) t)) (sym (first-rest text c first))
-    (All-cons P c (take n (drop 1 text)) is (subst (All P) same rest)))
+    (subst (λ t. All P (take (suc n) t)) (sym (first-rest text first.0 first.1.0))
+    (All-cons P first.0 (take n (drop 1 text)) first.1.1 (subst (All P) same rest)))
 
 pub passes-then : (n k : ℕ) (old middle new : Memory) → PassesTimes n old middle → PassesTimes k middle new → PassesTimes (n + k) old new
 passes-then zero k old middle new first second =
@@ -96,9 +96,9 @@ passes-then (suc n) k old middle new first second =
     subst (λ i. PassesTimes i old new) (sym more) (first.0, (first.1.0, passes-then n k first.0 middle new first.1.1 second))
 
 -- one step that performs no call, as a try of a step
-pub tried-passed : (old new : Contents) (n needed : ℕ) → Advances n old new → n ≡ 1 → IsSound old → needed ≡ used old → (meta : ℕ) (source : Stream) (written : Text) → Tried (scene old meta source written) None needed (scene new meta source written)
-tried-passed old new n needed passes one sound needs meta source written = λ m room_is memory_is allowed.
-    let once = subst (λ k. PassesTimes k (memory_of meta old) (memory_of meta new)) one (passes meta) in
+pub tried-passed : (old new : Contents) (needed : ℕ) → Advances 1 old new → IsSound old → needed ≡ used old → (meta : ℕ) (source : Stream) (written : Text) → Tried (scene old meta source written) None needed (scene new meta source written)
+tried-passed old new needed passes sound needs meta source written = λ m room_is memory_is allowed.
+    let once = passes meta in
     let pass : Passes (memory_of meta old) (memory_of meta new) = subst (Passes (memory_of meta old)) once.1.1 once.1.0 in
     let need_is : need (state_of (moment m source written)) ≡ needed = rw memory_is (pass.needs (ending source.bytes) written ∙ size-used meta old ∙ sym needs) in
     record {
@@ -130,13 +130,13 @@ some-run old new n most passes few some shorter =
     record { passes = passes; some = some; few = few; shorter = omega arith }
 
 -- a step, and then some that take a character each
-pub step-run : (old middle new : Contents) (n most : ℕ) → Scans old middle (used old) → used middle ≤ used old → length middle.active < length old.active → 0 < most → Advances n middle new → n ≤ most - 1 → length new.active + n ≡ length middle.active → SomeSteps (1 + n) most old new
-step-run old middle new n most scans same shorter some passes few less =
+pub step-run : (old middle new : Contents) (n most : ℕ) → SomeSteps 1 most old middle → Advances n middle new → n ≤ most - 1 → length new.active + n ≡ length middle.active → SomeSteps (1 + n) most old new
+step-run old middle new n most step passes few less =
     record {
-      passes = λ meta. passes-then 1 n (memory_of meta old) (memory_of meta middle) (memory_of meta new) (passes-once _ _ (passes-scans meta old middle scans same)) (passes meta);
+      passes = λ meta. passes-then 1 n (memory_of meta old) (memory_of meta middle) (memory_of meta new) (step.passes meta) (passes meta);
       some = omega arith;
-      few = omega arith;
-      shorter = omega arith;
+      few = omega (arith, few, step.few);
+      shorter = omega (arith, less, step.shorter);
     }
 
 -- steps that perform no call leave a memory no larger

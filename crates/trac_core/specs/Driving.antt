@@ -25,17 +25,26 @@ pub record Standing (I O : Type 0) : Type 0 where
 abbrev pub standing : {I O : Type 0} → MachineState → I → O → Standing I O
 standing machine source sink = record { machine = machine; source = source; sink = sink }
 
+-- the contents of a workspace and a meta character, between a source and a sink
+pub record Stage (I O : Type 0) : Type 0 where
+  pub contents : Contents
+  pub meta : ℕ
+  pub source : I
+  pub sink : O
+
+abbrev pub stage : {I O : Type 0} → Contents → ℕ → I → O → Stage I O
+stage contents meta source sink =
+    record { contents = contents; meta = meta; source = source; sink = sink }
+
 module _ {I O : Type 0} (performed : Standing I O → Option Fate → Standing I O → Type 0) where
-  -- the step was performed that each machine makes which holds the contents `old` and may step, once
+  -- the step was performed that each machine makes which holds the contents of `old` and may step, once
   -- `needed` cells are counted
-  abbrev pub PerformedFor :
-      Option Fate → (needed : ℕ) → (old : Contents) → (meta : ℕ) → I → O → (new : Contents) →
-      (after : ℕ) → I → O → Type 0
-  PerformedFor fate needed old meta source sink new after source_after sink_after =
-      (m : MachineState) → m.room ≡ old.room → m.memory ≡ memory_of meta old →
-      m.steps < m.allowance →
-      performed (standing m source sink) fate
-      (standing (counted m (memory_of after new) needed fate) source_after sink_after)
+  abbrev pub PerformedFor : Option Fate → (needed : ℕ) → (old new : Stage I O) → Type 0
+  PerformedFor fate needed old new =
+      (m : MachineState) → m.room ≡ old.contents.room →
+      m.memory ≡ memory_of old.meta old.contents → m.steps < m.allowance →
+      performed (standing m old.source old.sink) fate
+      (standing (counted m (memory_of new.meta new.contents) needed fate) new.source new.sink)
 
   -- one step more: it performs no call and needs no device, or its call was performed
   abbrev pub StepsBy : (old new : Standing I O) → Type 0
@@ -67,24 +76,20 @@ module _ {I O : Type 0} (performed : Standing I O → Option Fate → Standing I
 
 -- the next step performs this function, if any, and was declined: nothing is done
 pub record Declined {I O : Type 0} (declines : Memory → Type 0) (function : Option Function)
-    (old : Contents) (meta : ℕ) (source : I) (sink : O) (new : Contents) (after : ℕ)
-    (source_after : I) (sink_after : O) : Type 0 where
-  pub next : performs (memory_of meta old) ≡ function
-  pub declined : declines (memory_of meta old)
-  pub contents : new ≡ old
-  pub same_meta : after ≡ meta
-  pub same_source : source_after ≡ source
-  pub same_sink : sink_after ≡ sink
+    (old new : Stage I O) : Type 0 where
+  pub next : performs (memory_of old.meta old.contents) ≡ function
+  pub declined : declines (memory_of old.meta old.contents)
+  pub same : new ≡ old
 
 -- a step was performed that reads, and `scanned` steps followed which perform no call, if the run goes on
 pub record ReadsOn {I O : Type 0} (performed : Standing I O → Option Fate → Standing I O → Type 0)
-    (outcome : StepOutcome) (scanned : ℕ) (old : Contents) (meta : ℕ) (source : I) (sink : O) (new : Contents)
-    (after : I) : Type 0 where
+    (outcome : StepOutcome) (scanned : ℕ) (old : Stage I O) (new : Contents) (after : I) : Type 0 where
   -- what the contents are between the two
   pub middle : Contents
-  pub step : PerformedFor performed outcome.fate outcome.need old meta source sink middle meta after sink
+  pub step : PerformedFor performed outcome.fate outcome.need old
+      (record old { contents = middle; source = after })
   pub scans : Advances scanned middle new
-  pub room : middle.room ≡ old.room
+  pub room : middle.room ≡ old.contents.room
   pub sound : IsSound middle
   pub ends : outcome.fate ≢ None → new ≡ middle
   pub fits : outcome.fate ≡ None → used middle ≤ outcome.need

@@ -9,7 +9,7 @@ ghost use Rattle.trac_functions.specs.Calls.{KeepsRoom};
 ghost use Rattle.trac_core.specs.StepsInRow.{AsksFor, HasNoCommaFrom, idling_begun};
 ghost use Rattle.trac_core.specs.Performed.{needs_device};
 ghost use Rattle.trac_core.specs.OpenCalls.{stops_at};
-ghost use Rattle.trac_core.specs.Driving.{Standing, PerformedFor, Declined, PerformedAlone, PerformedWith, ReadsOn};
+ghost use Rattle.trac_core.specs.Driving.{Stage, stage, Standing, PerformedFor, Declined, PerformedAlone, PerformedWith, ReadsOn};
 
 use crate::call::{asks_host, named, needs_device, perform_alone, perform_next};
 use crate::idling::{begin_idling, load_idling};
@@ -45,10 +45,10 @@ pub(crate) trait Performer<I, O>: Copy {
         requires sound { IsSound work.old }
         requires asks { AsksFor action work.old }
         ensures done { MatchResult result
-            (λ outcome. PerformedFor (performed self) outcome.fate outcome.need work.old meta.old
-            source.old sink.old work.new meta.new source.new sink.new)
-            (λ function. Declined (declines self) function work.old meta.old source.old sink.old
-            work.new meta.new source.new sink.new) }
+            (λ outcome. PerformedFor (performed self) outcome.fate outcome.need
+            (stage work.old meta.old source.old sink.old) (stage work.new meta.new source.new sink.new))
+            (λ function. Declined (declines self) function
+            (stage work.old meta.old source.old sink.old) (stage work.new meta.new source.new sink.new)) }
         ensures ready { IfOk result (λ outcome. outcome.fate ≡ None → ready source.new sink.new) }
         ensures fits { IfOk result (λ outcome. outcome.need ≤ work.old.room) }
         ensures keeps { KeepsRoom work.old work.new };
@@ -72,7 +72,7 @@ pub(crate) trait Performer<I, O>: Copy {
         ensures begun { result ≡ None →
             (work.new ≡ idling_begun work.old) × ((left.new ≡ left.old) × (source.new ≡ source.old)) }
         ensures read { IfSome result (λ outcome. ReadsOn (performed self) outcome (left.old - left.new - 1)
-            (idling_begun work.old) meta source.old sink.now work.new source.new) }
+            (stage (idling_begun work.old) meta source.old sink.now) work.new source.new) }
         ensures no_comma_from { IfSome result (λ outcome. outcome.fate ≡ None → HasNoCommaFrom 4 work.new.neutral) }
         ensures left { left.new ≤ left.old }
         ensures goes_on { IfSome result (λ outcome. outcome.fate ≡ None → left.new < left.old) }

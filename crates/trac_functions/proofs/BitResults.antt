@@ -104,13 +104,14 @@ module _ (old now : Contents) (text : Text) (bits : BitResult) (are : AreFor old
 -- ---- the values of calls
 
 -- the bits that were read of a text are the value, changed in this way
-pub bits-valued : (f : Function) (args : List Text) (forms : List Form) (change : Bits → Bits) (given read before : Text) (l made : Bits) → ((w : World) → meaning_of f args w ≡ bits_result (octal_prefix given) (change (bits given)) w) → ((w : World) → built (Some f) args w ≡ value_length (meaning_of f args w)) → read ≡ given → before ≡ octal_prefix read → l ≡ bits read → made ≡ change l → Valued f args forms (before ++ octal made) false forms
-bits-valued f args forms change given read before l made means built_is same prefix bits_are made_is =
-    let front : octal_prefix given ≡ before = ap (λ t. octal_prefix t) (sym same) ∙ sym prefix in
-    let back : change (bits given) ≡ made = ap (λ t. change (bits t)) (sym same) ∙ ap change (sym bits_are) ∙ sym made_is in
-    valued-of f args forms forms (before ++ octal made) false
-    (λ meta input. means (world forms meta input) ∙ ap (λ t. bits_result t (change (bits given)) (world forms meta input)) front ∙ ap (λ l. bits_result before l (world forms meta input)) back)
-    built_is
+module _ (f : Function) (args : List Text) (change : Bits → Bits) (given : Text) (means : (w : World) → meaning_of f args w ≡ bits_result (octal_prefix given) (change (bits given)) w) (built_is : (w : World) → built (Some f) args w ≡ value_length (meaning_of f args w)) where
+  pub bits-valued : (forms : List Form) (read before : Text) (l made : Bits) → read ≡ given → before ≡ octal_prefix read → l ≡ bits read → made ≡ change l → Valued f args forms (before ++ octal made) false forms
+  bits-valued forms read before l made same prefix bits_are made_is =
+      let front : octal_prefix given ≡ before = ap (λ t. octal_prefix t) (sym same) ∙ sym prefix in
+      let back : change (bits given) ≡ made = ap (λ t. change (bits t)) (sym same) ∙ ap change (sym bits_are) ∙ sym made_is in
+      valued-of f args forms forms (before ++ octal made) false
+      (λ meta input. means (world forms meta input) ∙ ap (λ t. bits_result t (change (bits given)) (world forms meta input)) front ∙ ap (λ l. bits_result before l (world forms meta input)) back)
+      built_is
 
 -- a rotation of no bits, too
 pub rotation-any : (d : ℤ) (r n : ℕ) (l : Bits) → n ≡ max (length l) 1 → int_rem_euclid d (pos n) ≡ pos r → rotated (pos r) l ≡ rotated d l

@@ -17,10 +17,11 @@ null-value f args old new sound means built_is same =
     }
 
 -- a call that does nothing where no form has the name that its first argument gives
-pub idle : (f : Function) (old new : Contents) (a : Arguments) (name : Text) → AreArguments old a → ((title : Text) (w : World) → form_named (argument (texts old a) 0) w.forms ≡ None → meaning_of f (title ∷ texts old a) w ≡ silent w) → ((title : Text) (w : World) → built (Some f) (title ∷ texts old a) w ≡ value_length (meaning_of f (title ∷ texts old a) w)) → new ≡ old → NoneNamed name old.forms → name ≡ argument (texts old a) 0 → Performs f old a AtEnd new
-idle f old new a name are means built_is same none name_is = λ title.
-    let gone = form_named-none (argument (texts old a) 0) old.forms (subst (λ n. NoneNamed n old.forms) name_is none) in
-    ([], rw same (null-value f (title ∷ texts old a) old old are.sound (λ meta input. means title (world old.forms meta input) gone) (built_is title) refl))
+module _ (f : Function) (means : (ts : List Text) (title : Text) (w : World) → form_named (argument ts 0) w.forms ≡ None → meaning_of f (title ∷ ts) w ≡ silent w) (built_is : (ts : List Text) (title : Text) (w : World) → built (Some f) (title ∷ ts) w ≡ value_length (meaning_of f (title ∷ ts) w)) where
+  pub idle : (old new : Contents) (a : Arguments) (name : Text) → AreArguments old a → new ≡ old → NoneNamed name old.forms → name ≡ argument (texts old a) 0 → Performs f old a AtEnd new
+  idle old new a name are same none name_is = λ title.
+      let gone = form_named-none (argument (texts old a) 0) old.forms (subst (λ n. NoneNamed n old.forms) name_is none) in
+      ([], rw same (null-value f (title ∷ texts old a) old old are.sound (λ meta input. means (texts old a) title (world old.forms meta input) gone) (built_is (texts old a) title) refl))
 
 -- the names of the forms, a text before each
 abbrev pub names : Text → List Form → Text

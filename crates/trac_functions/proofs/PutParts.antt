@@ -4,46 +4,47 @@ use Rattle.trac_functions.proofs.Imports.{flat_text, Contents, used, IsSound, Is
 use Rattle.trac_functions.proofs.CellRanges.{part-append}
 use Rattle.trac_functions.proofs.PutCharacters.{with_text, used-with, with-both, stands-behind}
 
--- of the text `whole`, `left` is left to put, and what was put stands at the end of the neutral string
-pub record HasPut (old now : Contents) (whole left : Text) : Type 0 where
-  pub done : Text
-  pub sound : IsSound now
-  pub stands : now ≡ with_text old done
-  pub whole_is : done ++ left ≡ whole
+module _ (old : Contents) (whole : Text) where
+  -- of the text `whole`, `left` is left to put, and what was put stands at the end of the neutral string
+  pub record HasPut (now : Contents) (left : Text) : Type 0 where
+    pub done : Text
+    pub sound : IsSound now
+    pub stands : now ≡ with_text old done
+    pub whole_is : done ++ left ≡ whole
 
-pub put-none : (old now : Contents) (whole left : Text) → IsSound now → now ≡ old → left ≡ whole → HasPut old now whole left
-put-none old now whole left sound same e =
-    record { done = []; sound = sound; stands = same ∙ ap (λ cells. record old { neutral = cells }) (sym (append-nil old.neutral)); whole_is = e }
+  pub put-none : (now : Contents) (left : Text) → IsSound now → now ≡ old → left ≡ whole → HasPut now left
+  put-none now left sound same e =
+      record { done = []; sound = sound; stands = same ∙ ap (λ cells. record old { neutral = cells }) (sym (append-nil old.neutral)); whole_is = e }
 
--- one more part of a text was put at the end of the neutral string
-pub put-more : (old now new : Contents) (whole text left rest : Text) → HasPut old now whole left → left ≡ text ++ rest → new ≡ with_text now text → IsSound new → HasPut old new whole rest
-put-more old now new whole text left rest put split more sound =
-    record {
-      done = put.done ++ text;
-      sound = sound;
-      stands = more ∙ ap (λ w. with_text w text) put.stands ∙ with-both old put.done text;
-      whole_is = append_assoc put.done text rest ∙ ap (λ t. put.done ++ t) (sym split) ∙ put.whole_is;
-    }
+  -- one more part of a text was put at the end of the neutral string
+  pub put-more : (now new : Contents) (text left rest : Text) → HasPut now left → left ≡ text ++ rest → new ≡ with_text now text → IsSound new → HasPut new rest
+  put-more now new text left rest put split more sound =
+      record {
+        done = put.done ++ text;
+        sound = sound;
+        stands = more ∙ ap (λ w. with_text w text) put.stands ∙ with-both old put.done text;
+        whole_is = append_assoc put.done text rest ∙ ap (λ t. put.done ++ t) (sym split) ∙ put.whole_is;
+      }
 
-pub used-put : (old now : Contents) (whole left : Text) (put : HasPut old now whole left) → used now + length left ≡ used old + length whole
-used-put old now whole left put =
-    omega (arith, ap used put.stands ∙ used-with old put.done, ap length put.whole_is, length-append put.done left)
+  pub used-put : (now : Contents) (left : Text) (put : HasPut now left) → used now + length left ≡ used old + length whole
+  used-put now left put =
+      omega (arith, ap used put.stands ∙ used-with old put.done, ap length put.whole_is, length-append put.done left)
 
--- where a part that is left doesn't fit the whole doesn't
-pub put-full : (old now : Contents) (whole text left rest : Text) → HasPut old now whole left → left ≡ text ++ rest → now.room < used now + length text → old.room < used old + length whole
-put-full old now whole text left rest put split full =
-    let room : now.room ≡ old.room = ap (λ (w : Contents). w.room) put.stands in
-    omega (arith, used-put old now whole left put, ap length split, length-append text rest)
+  -- where a part that is left doesn't fit the whole doesn't
+  pub put-full : (now : Contents) (text left rest : Text) → HasPut now left → left ≡ text ++ rest → now.room < used now + length text → old.room < used old + length whole
+  put-full now text left rest put split full =
+      let room : now.room ≡ old.room = ap (λ (w : Contents). w.room) put.stands in
+      omega (arith, used-put now left put, ap length split, length-append text rest)
+
+  pub forms-kept : (now : Contents) (left : Text) → HasPut now left → now.forms ≡ old.forms
+  forms-kept now left put = ap (λ (w : Contents). w.forms) put.stands
 
 -- where none is left the value stands
-pub put-all : (f : Function) (args : List Text) (old now : Contents) (whole : Text) → HasPut old now whole [] → Valued f args old.forms whole false old.forms → IsValue f args old now false whole
+pub put-all : (f : Function) (args : List Text) (old now : Contents) (whole : Text) → HasPut old whole now [] → Valued f args old.forms whole false old.forms → IsValue f args old now false whole
 put-all f args old now whole put valued =
     stands-behind f args old now whole false valued put.sound (put.stands ∙ ap (with_text old) (sym (append-nil put.done) ∙ put.whole_is))
 
-pub forms-kept : (old now : Contents) (whole left : Text) → HasPut old now whole left → now.forms ≡ old.forms
-forms-kept old now whole left put = ap (λ (w : Contents). w.forms) put.stands
-
-module _ (old now : Contents) (whole left : Text) (put : HasPut old now whole left) where
+module _ (old : Contents) (whole : Text) (now : Contents) (left : Text) (put : HasPut old whole now left) where
   kept : (a b : ℕ) → IsTextPart old.neutral a b → slice_range now.neutral a b ≡ slice_range old.neutral a b
   kept a b part = ap (λ (w : Contents). slice_range w.neutral a b) put.stands ∙ part-append old.neutral (flat_text put.done) a b part.order part.within
 

@@ -1,11 +1,10 @@
 -- The parts that calls take of a form.
 use Rattle.trac_space.specs.declared.part.Part.{Part as CellPart}
-use Rattle.trac_functions.proofs.Imports.{◌≡◌, ◌≢◌, ℕ, zero, suc, ◌+◌, ◌-◌, ◌<◌, ◌≤◌, min, Bool, true, false, List, [], ◌∷◌, ◌++◌, length, take, drop, reverse, set, slice_range, get_or, Option, Some, None, refl, sym, ap, ◌∙◌, subst, arith, nat_lt, take_while, option_map}
+use Rattle.trac_functions.proofs.Imports.{◌≡◌, ◌≢◌, ℕ, zero, suc, ◌+◌, ◌-◌, ◌<◌, ◌≤◌, min, Bool, true, false, List, [], ◌∷◌, ◌++◌, length, take, drop, reverse, slice_range, get_or, Option, Some, None, refl, sym, ap, ◌∙◌, subst, arith, nat_lt, take_while, option_map}
 use Rattle.trac_functions.proofs.Imports.{if◌then◌else◌, int_lt, unsigned_abs, pos, prefix_len, lt-ltb, le-ltb, length-take, length-drop, length-reverse, nil_from_length, get_or-drop, drop-drop, drop_of_length-le, sum_by-cons, Item, Function, Text, Form, is_character, text_of, after_pointer, before_pointer}
-use Rattle.trac_functions.proofs.Imports.{begins, place_of, form_named, changed, cells, form_cells, Input, Part, characters, first_characters, segment_from, next_segment, unless_null, forward, backward, next_characters, previous_characters, up_to, initial_part, World, on_form, silent}
-use Rattle.trac_functions.proofs.Imports.{with_form, take_part, meaning_of, value_length, built, number, flat_text, signed, character_at, is_gap, gap_at, text_at, NonePasses, IsFirst, Contents, form_at, IsNamedAt, IsSound, part_text, form_named-at, changed-at, CallResult, Full, AtEnd}
-use Rattle.trac_functions.proofs.Imports.{InFront, Unscanned, Null, Over, world, Valued, Makes, Performs, Arguments, AreArguments, argument, texts, part_value, moved, TakesPart, TakesOrDefault}
-use Rattle.trac_functions.proofs.FormLemmas.{null-value}
+use Rattle.trac_functions.proofs.Imports.{begins, place_of, form_named, changed, cells, form_cells, Input, Part, characters, first_characters, segment_from, next_segment, unless_null, forward, backward, next_characters, previous_characters, up_to, initial_part, World, on_form}
+use Rattle.trac_functions.proofs.Imports.{take_part, meaning_of, value_length, built, number, flat_text, signed, character_at, is_gap, gap_at, text_at, NonePasses, IsFirst, Contents, form_at, IsNamedAt, IsSound, part_text, form_named-at, changed-at, CallResult, Full, AtEnd}
+use Rattle.trac_functions.proofs.Imports.{InFront, world, Valued, Makes, Performs, Arguments, AreArguments, argument, texts, part_value, moved, TakesPart, TakesOrDefault}
 use Rattle.trac_language.specs.declared.item.Item.TheVariants.{Byte, Gap}
 use Rattle.trac_functions.proofs.CountLimits.{counted}
 use Rattle.trac_functions.proofs.MadeValues.{valued-of}
@@ -55,21 +54,26 @@ module _ (f : Function) (args : List Text) (name : Text) (part : Form → Option
               stands = takes.stands ∙ ap (λ fs. record old { forms = fs; neutral = old.neutral ++ flat_text p.text }) (sym forms);
             },
           )
-      go None e AtEnd takes = absurd takes
-      go (Some p) e (InFront size) takes = absurd takes
-      go None e (Unscanned size) takes = absurd takes
-      go (Some p) e (Unscanned size) takes = absurd takes
-      go None e (Null cells) takes = absurd takes
-      go (Some p) e (Null cells) takes = absurd takes
-      go None e (Over fate) takes = absurd takes
-      go (Some p) e (Over fate) takes = absurd takes
+      go None e _ takes = absurd takes
+      go (Some p) e _ takes = absurd takes
+
+-- in `found`, which is still `old`, the code found the form that the first argument names
+pub record FindsForm (old found : Contents) (a : Arguments) : Type 0 where
+  pub are : AreArguments old a
+  pub same : found ≡ old
+  pub name : Text
+  pub place : ℕ
+  pub at : IsNamedAt old.forms name place
+  pub is_first : name ≡ argument (texts old a) 0
 
 -- what a call makes that takes a part of a form, by the place at which the code found the form
-pub makes-found : (f : Function) (part : List Text → Form → Option Part) (other : ℕ) (old found new : Contents) (a : Arguments) (k : ℕ) (call_result : CallResult) (name : Text) (z : CellPart) → ((title : Text) (w : World) → meaning_of f (title ∷ texts old a) w ≡ on_form (form_named (argument (texts old a) 0) w.forms) (λ form. take_part (argument (texts old a) 0) (part (texts old a) form) (argument (texts old a) other) w) w) → ((title : Text) (w : World) → built (Some f) (title ∷ texts old a) w ≡ value_length (meaning_of f (title ∷ texts old a) w)) → AreArguments old a → found ≡ old → IsNamedAt old.forms name k → name ≡ argument (texts old a) 0 → TakesOrDefault (part (texts old a)) k z found call_result new → part_text old.neutral z.from z.to ≡ argument (texts old a) other → Performs f old a call_result new
-makes-found f part other old found new a k call_result name z means built_is are same at is takes text = λ title.
-    let here = subst (λ (w : Contents). TakesOrDefault (part (texts old a)) k z w call_result new) same takes in
-    makes-part f (title ∷ texts old a) (argument (texts old a) 0) (part (texts old a)) (argument (texts old a) other) a.scanned (means title) (built_is title) old new k call_result are.sound
-    (subst (λ n. IsNamedAt old.forms n k) is at) (subst (λ t. TakesPart (part (texts old a) (form_at old.forms k)) t k old call_result new) text here)
+module _ (f : Function) (part : List Text → Form → Option Part) (other : ℕ) (means : (ts : List Text) (title : Text) (w : World) → meaning_of f (title ∷ ts) w ≡ on_form (form_named (argument ts 0) w.forms) (λ form. take_part (argument ts 0) (part ts form) (argument ts other) w) w) (built_is : (ts : List Text) (title : Text) (w : World) → built (Some f) (title ∷ ts) w ≡ value_length (meaning_of f (title ∷ ts) w)) where
+  pub makes-found : (old found new : Contents) (a : Arguments) (call_result : CallResult) (z : CellPart) (form : FindsForm old found a) → TakesOrDefault (part (texts old a)) form.place z found call_result new → part_text old.neutral z.from z.to ≡ argument (texts old a) other → Performs f old a call_result new
+  makes-found old found new a call_result z form takes text = λ title.
+      let ts = texts old a in
+      let here = subst (λ (w : Contents). TakesOrDefault (part ts) form.place z w call_result new) form.same takes in
+      makes-part f (title ∷ ts) (argument ts 0) (part ts) (argument ts other) a.scanned (means ts title) (built_is ts title) old new form.place call_result form.are.sound
+      (subst (λ n. IsNamedAt old.forms n form.place) form.is_first form.at) (subst (λ t. TakesPart (part ts (form_at old.forms form.place)) t form.place old call_result new) text here)
 
 -- a part that is there is taken, and else the text of z
 pub takes-some : {part : Part} {o : Option Part} (z : CellPart) (k : ℕ) (old : Contents) (call_result : CallResult) (new : Contents) → Some part ≡ o → ((z : Text) → TakesPart (Some part) z k old call_result new) → TakesPart o (part_text old.neutral z.from z.to) k old call_result new
@@ -77,23 +81,6 @@ takes-some z k old call_result new e takes = subst (λ o. TakesPart o (part_text
 
 pub takes-none : {o : Option Part} (z : CellPart) (k : ℕ) (old : Contents) (call_result : CallResult) (new : Contents) → o ≡ None → ((k : ℕ) → TakesPart None (part_text old.neutral z.from z.to) k old call_result new) → TakesPart o (part_text old.neutral z.from z.to) k old call_result new
 takes-none z k old call_result new e takes = subst (λ o. TakesPart o (part_text old.neutral z.from z.to) k old call_result new) (sym e) (takes k)
-
--- ---- a form that is changed
-
--- a call of this function changes the form that its first argument names
-pub changes-found : (f : Function) (change : Form → Form) (old found new : Contents) (a : Arguments) (k : ℕ) (name : Text) → ((title : Text) (w : World) → meaning_of f (title ∷ texts old a) w ≡ on_form (form_named (argument (texts old a) 0) w.forms) (λ form. silent (with_form (argument (texts old a) 0) change w)) w) → ((title : Text) (w : World) → built (Some f) (title ∷ texts old a) w ≡ value_length (meaning_of f (title ∷ texts old a) w)) → AreArguments old a → found ≡ old → IsNamedAt old.forms name k → name ≡ argument (texts old a) 0 → new ≡ record found { forms = set found.forms k (change (form_at found.forms k)) } → Performs f old a AtEnd new
-changes-found f change old found new a k name means built_is are same at is changed_is = λ title.
-    let first = argument (texts old a) 0 in
-    let here = subst (λ n. IsNamedAt old.forms n k) is at in
-    let new_is : new ≡ record old { forms = set old.forms k (change (form_at old.forms k)) } = changed_is ∙ ap (λ (w : Contents). record w { forms = set w.forms k (change (form_at w.forms k)) }) same in
-    let forms : new.forms ≡ set old.forms k (change (form_at old.forms k)) = ap (λ (w : Contents). w.forms) new_is in (
-      [],
-      null-value f (title ∷ texts old a) old new are.sound
-          (λ meta input. means title (world old.forms meta input)
-          ∙ ap (λ o. on_form o (λ form. silent (with_form first change (world old.forms meta input))) (world old.forms meta input)) (form_named-at first old.forms k are.sound.forms here)
-          ∙ ap (λ fs. silent (world fs meta input)) (changed-at first change old.forms k are.sound.forms here ∙ sym forms))
-          (built_is title) (new_is ∙ ap (λ fs. record old { forms = fs }) (sym forms)),
-    )
 
 -- ---- the parts
 
@@ -184,11 +171,11 @@ segment-none form p e end =
     ap (λ items. segment_from form.pointer items (take_while is_character items)) rest
 
 -- the segment that ends at a place, at a gap or at the end of the body
-segment-at : (form : Form) (p n pointer : ℕ) (gap : Bool) → p ≡ form.pointer → prefix_len is_character (drop p form.body) ≡ n → p + n ≤ length form.body → p < length form.body → nat_lt n (length (drop p form.body)) ≡ gap → (if gap then p + n + 1 else p + n) ≡ pointer → Some (a-part (text_of (take n (drop p form.body))) pointer) ≡ next_segment form
-segment-at form p n pointer gap e run within some test pointer_is =
+segment-at : (form : Form) (p n pointer : ℕ) → p ≡ form.pointer → prefix_len is_character (drop p form.body) ≡ n → p + n ≤ length form.body → p < length form.body → (if nat_lt n (length (drop p form.body)) then p + n + 1 else p + n) ≡ pointer → Some (a-part (text_of (take n (drop p form.body))) pointer) ≡ next_segment form
+segment-at form p n pointer e run within some pointer_is =
     let long = length-drop p form.body in
     let front : n ≡ length (take n (drop p form.body)) = omega (arith, length-take n (drop p form.body)) in
-    ap (λ q. Some (a-part (text_of (take n (drop p form.body))) q)) (sym pointer_is ∙ ap (λ b. if b then p + n + 1 else p + n) (sym test))
+    ap (λ q. Some (a-part (text_of (take n (drop p form.body))) q)) (sym pointer_is)
     ∙ ap (λ m. Some (a-part (text_of (take n (drop p form.body))) (if nat_lt m (length (drop p form.body)) then p + m + 1 else p + m))) front
     ∙ go (drop p form.body) (omega arith)
     ∙ ap (λ m. segment_from p (drop p form.body) (take m (drop p form.body))) (sym run)
@@ -207,7 +194,7 @@ segment-gap form p gap e first =
     let run = prefix-run (drop p form.body) (gap - p) (omega arith)
     (λ k lt. ap is_gap (get_or-drop p form.body k (Byte 0)) ∙ first.before (p + k) (omega arith) (omega arith))
     (λ lt. ap is_gap (get_or-drop p form.body (gap - p) (Byte 0)) ∙ ap (gap_at form.body) here ∙ first.passes) in
-    segment-at form p (gap - p) (gap + 1) true e run (omega arith) (omega arith) (lt-ltb _ _ (omega arith)) (omega arith)
+    segment-at form p (gap - p) (gap + 1) e run (omega arith) (omega arith) (rw (lt-ltb (gap - p) (length (drop p form.body)) (omega arith)) (omega arith))
 
 pub segment-end : (form : Form) (p end : ℕ) → p ≡ form.pointer → end ≡ length form.body → p ≤ end → p ≢ end → NonePasses (gap_at form.body) p (length form.body) → Some (a-part (text_of (slice_range form.body p end)) end) ≡ next_segment form
 segment-end form p end e end_is le other none =
@@ -215,7 +202,7 @@ segment-end form p end e end_is le other none =
     let run = prefix-run (drop p form.body) (end - p) (omega arith)
     (λ k lt. ap is_gap (get_or-drop p form.body k (Byte 0)) ∙ none (p + k) (omega arith) (omega arith))
     (λ lt. absurd (omega arith)) in
-    segment-at form p (end - p) end false e run (omega arith) (omega arith) (le-ltb _ _ (omega arith)) (omega arith)
+    segment-at form p (end - p) end e run (omega arith) (omega arith) (rw (le-ltb (end - p) (length (drop p form.body)) (omega arith)) (omega arith))
 
 -- ---- up to an occurrence
 

@@ -46,18 +46,18 @@ module _ {A : Type 0} where
   laid-next m xs ys r r₁ r₂ place first then =
       then ∙ ap (λ k. laid_from k ys r₁) place ∙ ap (λ r. laid_from (length xs) ys r) first ∙ laid-then xs ys r
 
-module _ {X A : Type 0} (f : X → A) where
+module _ {X A : Type 0} (f : X → A) (xs : List X) (r : List A) where
   -- one item more is put of a list whose items f turns into what is put
-  pub laid-mapped : (xs : List X) (i : ℕ) (d : X) (a : A) (r r₁ r₂ : List A) → i < length xs → a ≡ f (get_or xs i d) → r₁ ≡ laid (map f (take i xs)) r → r₂ ≡ laid_from i (a ∷ []) r₁ → r₂ ≡ laid (map f (take (i + 1) xs)) r
-  laid-mapped xs i d a r r₁ r₂ lt same first then =
+  pub laid-mapped : (i : ℕ) (d : X) (a : A) (r₁ r₂ : List A) → i < length xs → a ≡ f (get_or xs i d) → r₁ ≡ laid (map f (take i xs)) r → r₂ ≡ laid_from i (a ∷ []) r₁ → r₂ ≡ laid (map f (take (i + 1) xs)) r
+  laid-mapped i d a r₁ r₂ lt same first then =
       let long : i ≡ length (map f (take i xs)) = sym (length-map (take i xs) f ∙ length-take-le i xs (omega arith)) in
       laid-next i (map f (take i xs)) (f (get_or xs i d) ∷ []) r r₁ r₂ long first (then ∙ ap (λ a. laid_from i (a ∷ []) r₁) same)
       ∙ ap (λ l. laid l r) (sym (ap (map f) (take_more xs i d lt) ∙ map-append f (take i xs) (get_or xs i d ∷ [])))
 
-  -- what doesn't fit need not be put
-  pub laid-enough : (i : ℕ) (xs : List X) (r : List A) → min (length xs) (length r) ≤ i → laid (map f (take i xs)) r ≡ laid (map f xs) r
-  laid-enough i xs [] le = laid-none (map f (take i xs)) ∙ sym (laid-none (map f xs))
-  laid-enough zero [] (y ∷ r) le = refl
-  laid-enough zero (x ∷ xs) (y ∷ r) le = absurd (omega (arith, le))
-  laid-enough (suc i) [] (y ∷ r) le = refl
-  laid-enough (suc i) (x ∷ xs) (y ∷ r) le = ap (λ r. f x ∷ r) (laid-enough i xs r (omega arith))
+-- what doesn't fit need not be put
+pub laid-enough : {X A : Type 0} (f : X → A) (i : ℕ) (xs : List X) (r : List A) → min (length xs) (length r) ≤ i → laid (map f (take i xs)) r ≡ laid (map f xs) r
+laid-enough f i xs [] le = laid-none (map f (take i xs)) ∙ sym (laid-none (map f xs))
+laid-enough f zero [] (y ∷ r) le = refl
+laid-enough f zero (x ∷ xs) (y ∷ r) le = absurd (omega (arith, le))
+laid-enough f (suc i) [] (y ∷ r) le = refl
+laid-enough f (suc i) (x ∷ xs) (y ∷ r) le = ap (λ r. f x ∷ r) (laid-enough f i xs r (omega arith))

@@ -39,20 +39,20 @@ cells-push (x ∷ forms) form =
     omega (arith, cells-push forms form, sum_by-cons form_cells x forms, sum_by-cons form_cells x (forms ++ form ∷ []))
 
 -- one form more is defined
-pub record Defined (m old n : MachineState) (f : Form) (b all : List Form) : Type 0 where
-  pub forms : n.memory.forms ++ b ≡ all
+pub record Defined (m old n : MachineState) (f : Form) (b : List Form) : Type 0 where
+  pub forms : n.memory.forms ++ b ≡ m.memory.forms ++ f ∷ b
   pub same : n ≡ with_forms n.memory.forms old
   pub room : n.room - size n.memory ≡ m.room - size m.memory - form_cells f
 
-pub defined-next : (m old n : MachineState) (f : Form) (b all : List Form) → m ≡ with_forms m.memory.forms old → m.memory.forms ++ f ∷ b ≡ all → AreDistinct all → n ≡ with_forms (with_form f m.memory.forms) m → Defined m old n f b all
-defined-next m old n f b all same forms distinct is =
+pub defined-next : (m old n : MachineState) (f : Form) (b : List Form) → m ≡ with_forms m.memory.forms old → AreDistinct (m.memory.forms ++ f ∷ b) → n ≡ with_forms (with_form f m.memory.forms) m → Defined m old n f b
+defined-next m old n f b same distinct is =
     let had = m.memory.forms in
-    let none = distinct-before had b f (subst AreDistinct (sym forms) distinct) in
+    let none = distinct-before had b f distinct in
     let last : with_form f had ≡ had ++ f ∷ [] = ap (λ fs. fs ++ f ∷ []) (without-none f.name had none) in
     let pushed : n ≡ with_forms (had ++ f ∷ []) m = is ∙ ap (λ fs. with_forms fs m) last in
-    let made : Defined m old (with_forms (had ++ f ∷ []) m) f b all = record {
-      forms = append_assoc had (f ∷ []) b ∙ forms;
+    let made : Defined m old (with_forms (had ++ f ∷ []) m) f b = record {
+      forms = append_assoc had (f ∷ []) b;
       same = ap (with_forms (had ++ f ∷ [])) same;
       room = omega (arith, cells-push had f);
     } in
-    subst (λ n. Defined m old n f b all) (sym pushed) made
+    subst (λ n. Defined m old n f b) (sym pushed) made

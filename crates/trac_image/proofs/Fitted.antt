@@ -11,49 +11,51 @@ pub record Both (A B : Type 0) : Type 0 where
   pub passed : B → A
   pub whole : A → B
 
-pub new-next : (name : Text) (n m : ℕ) (t s : Text) → n ≡ suc m → s ≡ behind_form t → name_in t ≢ name → Both (NoneNamed name (forms_in n t)) (NoneNamed name (forms_in m s))
-new-next name n m t s one behind other =
-    let first : Both (NoneNamed name (forms_in (suc m) t)) (NoneNamed name (forms_in m (behind_form t))) = record {
-      passed = λ none. (other, none);
-      whole = λ none. none.1;
-    } in
-    subst (λ n. Both (NoneNamed name (forms_in n t)) (NoneNamed name (forms_in m s))) (sym one)
-    (subst (λ s. Both (NoneNamed name (forms_in (suc m) t)) (NoneNamed name (forms_in m s))) (sym behind) first)
+-- of n forms in a text, m are behind the first, in the text s
+module _ (n m : ℕ) (t s : Text) (one : n ≡ suc m) (behind : s ≡ behind_form t) where
+  pub new-next : (name : Text) → name_in t ≢ name → Both (NoneNamed name (forms_in n t)) (NoneNamed name (forms_in m s))
+  new-next name other =
+      let first : Both (NoneNamed name (forms_in (suc m) t)) (NoneNamed name (forms_in m (behind_form t))) = record {
+        passed = λ none. (other, none);
+        whole = λ none. none.1;
+      } in
+      subst (λ n. Both (NoneNamed name (forms_in n t)) (NoneNamed name (forms_in m s))) (sym one)
+      (subst (λ s. Both (NoneNamed name (forms_in (suc m) t)) (NoneNamed name (forms_in m s))) (sym behind) first)
+
+  pub distinct-next : NoneNamed (name_in t) (forms_in m s) → Both (AreDistinct (forms_in n t)) (AreDistinct (forms_in m s))
+  distinct-next none =
+      let new = subst (λ s. NoneNamed (name_in t) (forms_in m s)) behind none in
+      let first : Both (AreDistinct (forms_in (suc m) t)) (AreDistinct (forms_in m (behind_form t))) = record {
+        passed = λ others. (new, others);
+        whole = λ all. all.1;
+      } in
+      subst (λ n. Both (AreDistinct (forms_in n t)) (AreDistinct (forms_in m s))) (sym one)
+      (subst (λ s. Both (AreDistinct (forms_in (suc m) t)) (AreDistinct (forms_in m s))) (sym behind) first)
+
+  pub distinct-first : AreDistinct (forms_in n t) → NoneNamed (name_in t) (forms_in m s)
+  distinct-first all =
+      subst (λ s. NoneNamed (name_in t) (forms_in m s)) (sym behind) (subst (λ n. AreDistinct (forms_in n t)) one all).0
+
+  pub fit-next : (room left : ℕ) → IsFit t → form_cells (form_in t) ≤ room → left ≡ room - form_cells (form_in t) → Both (AreFit n room t) (AreFit m left s)
+  fit-next room left fit few rest =
+      let first : Both (AreFit (suc m) room t) (AreFit m (room - form_cells (form_in t)) (behind_form t)) = record {
+        passed = λ others. (fit, few, others);
+        whole = λ all. all.2;
+      } in
+      subst (λ n. Both (AreFit n room t) (AreFit m left s)) (sym one)
+      (subst (λ s. Both (AreFit (suc m) room t) (AreFit m left s)) (sym behind)
+      (subst (λ left. Both (AreFit (suc m) room t) (AreFit m left (behind_form t))) (sym rest) first))
+
+  pub behind-next : behind_forms m s ≡ behind_forms n t
+  behind-next = ap (behind_forms m) behind ∙ ap (λ n. behind_forms n t) (sym one)
 
 pub new-not : (name : Text) (n m : ℕ) (t : Text) → n ≡ suc m → name_in t ≡ name → NoneNamed name (forms_in n t) → ⊥
 new-not name n m t one same none = (subst (λ n. NoneNamed name (forms_in n t)) one none).0 same
-
-pub distinct-next : (n m : ℕ) (t s : Text) → n ≡ suc m → s ≡ behind_form t → NoneNamed (name_in t) (forms_in m s) → Both (AreDistinct (forms_in n t)) (AreDistinct (forms_in m s))
-distinct-next n m t s one behind none =
-    let new = subst (λ s. NoneNamed (name_in t) (forms_in m s)) behind none in
-    let first : Both (AreDistinct (forms_in (suc m) t)) (AreDistinct (forms_in m (behind_form t))) = record {
-      passed = λ others. (new, others);
-      whole = λ all. all.1;
-    } in
-    subst (λ n. Both (AreDistinct (forms_in n t)) (AreDistinct (forms_in m s))) (sym one)
-    (subst (λ s. Both (AreDistinct (forms_in (suc m) t)) (AreDistinct (forms_in m s))) (sym behind) first)
-
-pub distinct-first : (n m : ℕ) (t s : Text) → n ≡ suc m → s ≡ behind_form t → AreDistinct (forms_in n t) → NoneNamed (name_in t) (forms_in m s)
-distinct-first n m t s one behind all =
-    subst (λ s. NoneNamed (name_in t) (forms_in m s)) (sym behind) (subst (λ n. AreDistinct (forms_in n t)) one all).0
-
-pub fit-next : (n m room left : ℕ) (t s : Text) → n ≡ suc m → s ≡ behind_form t → IsFit t → form_cells (form_in t) ≤ room → left ≡ room - form_cells (form_in t) → Both (AreFit n room t) (AreFit m left s)
-fit-next n m room left t s one behind fit few rest =
-    let first : Both (AreFit (suc m) room t) (AreFit m (room - form_cells (form_in t)) (behind_form t)) = record {
-      passed = λ others. (fit, few, others);
-      whole = λ all. all.2;
-    } in
-    subst (λ n. Both (AreFit n room t) (AreFit m left s)) (sym one)
-    (subst (λ s. Both (AreFit (suc m) room t) (AreFit m left s)) (sym behind)
-    (subst (λ left. Both (AreFit (suc m) room t) (AreFit m left (behind_form t))) (sym rest) first))
 
 pub fit-first : (n m room : ℕ) (t : Text) → n ≡ suc m → AreFit n room t → IsFit t × (form_cells (form_in t) ≤ room)
 fit-first n m room t one all =
     let here = subst (λ n. AreFit n room t) one all in
     (here.0, here.1)
-
-pub behind-next : (n m : ℕ) (t s : Text) → n ≡ suc m → s ≡ behind_form t → behind_forms m s ≡ behind_forms n t
-behind-next n m t s one behind = ap (behind_forms m) behind ∙ ap (λ n. behind_forms n t) (sym one)
 
 -- nothing is left
 pub none-left : (n : ℕ) → n ≤ 0 → n ≡ 0

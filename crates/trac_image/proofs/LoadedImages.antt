@@ -16,27 +16,35 @@ use Rattle.trac_image.proofs.ImageLaws.{all-read, image-told}
 use Rattle.trac_image.proofs.ReadBack.{forms-whole, length-forms_in}
 use Rattle.trac_image.proofs.Stands.{forms-stand, have-parts, stand-codable, stand-distinct, stand-fit}
 
--- the bytes have one content
-pub one-content : (room : ℕ) (bytes : Text) (meta count m n : ℕ) (forms t : Text) → IsFitContent room bytes meta count forms → IsContent bytes m n t → IsFitContent room bytes m n t
-one-content room bytes meta count m n forms t fit content =
-    let told = framed-tells meta m count n forms t fit.content.few content.few (sym fit.content.image ∙ content.image) in
-    record {
-      content = content;
-      fit = subst (λ t. AreFit n room t) told.2 (subst (λ n. AreFit n room forms) told.1 fit.fit);
-      distinct = subst (λ t. AreDistinct (forms_in n t)) told.2 (subst (λ n. AreDistinct (forms_in n forms)) told.1 fit.distinct);
-      last = (λ i. behind_forms (sym told.1 i) (sym told.2 i)) ∙ fit.last;
-    }
+module _ (room : ℕ) (bytes : Text) (meta count : ℕ) (forms : Text) (fit : IsFitContent room bytes meta count forms) where
+  -- the bytes have one content
+  pub one-content : (m n : ℕ) (t : Text) → IsContent bytes m n t → IsFitContent room bytes m n t
+  one-content m n t content =
+      let told = framed-tells meta m count n forms t fit.content.few content.few (sym fit.content.image ∙ content.image) in
+      record {
+        content = content;
+        fit = subst (λ t. AreFit n room t) told.2 (subst (λ n. AreFit n room forms) told.1 fit.fit);
+        distinct = subst (λ t. AreDistinct (forms_in n t)) told.2 (subst (λ n. AreDistinct (forms_in n forms)) told.1 fit.distinct);
+        last = (λ i. behind_forms (sym told.1 i) (sym told.2 i)) ∙ fit.last;
+      }
 
--- such bytes are the image of forms that can stand
-pub content-image : (room : ℕ) (bytes : Text) (meta count : ℕ) (forms : Text) → All IsCharacter forms → IsFitContent room bytes meta count forms → (bytes ≡ image_of (forms_in count forms) meta) × CanStand (forms_in count forms) room
-content-image room bytes meta count forms characters fit =
-    let read = forms_in count forms in
-    let whole : forms ≡ flat_map form_image read =
-    forms-whole count forms characters (have-parts count room forms fit.fit)
-    ∙ ap (λ t. flat_map form_image read ++ t) fit.last ∙ simp append-nil in (
-      fit.content.image ∙ (λ i. framed meta (sym (length-forms_in count forms) i) (whole i)),
-      forms-stand count room forms fit.fit fit.distinct,
-    )
+  -- such bytes are the image of forms that can stand
+  pub content-image : All IsCharacter forms → (bytes ≡ image_of (forms_in count forms) meta) × CanStand (forms_in count forms) room
+  content-image characters =
+      let read = forms_in count forms in
+      let whole : forms ≡ flat_map form_image read =
+      forms-whole count forms characters (have-parts count room forms fit.fit)
+      ∙ ap (λ t. flat_map form_image read ++ t) fit.last ∙ simp append-nil in (
+        fit.content.image ∙ (λ i. framed meta (sym (length-forms_in count forms) i) (whole i)),
+        forms-stand count room forms fit.fit fit.distinct,
+      )
+
+  -- an image is taken
+  pub image-loads : (old new : MachineState) → room ≡ room_for_forms old → All IsCharacter forms → new ≡ with_image (forms_in count forms) meta old → Loads old bytes new
+  image-loads old new room_is characters is =
+      let found = content-image characters in
+      let stand = subst (CanStand (forms_in count forms)) room_is found.1 in
+      subst (Loads old bytes) (sym is) (record { image = record { image = found.0; stand = stand }; rest = refl })
 
 few-forms : (forms : List Form) → length forms ≤ cells forms
 few-forms [] = omega arith
@@ -66,13 +74,6 @@ room-freed m n meta is = ap room_for_forms is ∙ freed
   where
     freed : room_for_forms (with_image [] meta m) ≡ room_for_forms m
     freed = omega arith
-
--- an image is taken
-pub image-loads : (old new : MachineState) (room : ℕ) (bytes : Text) (meta count : ℕ) (forms : Text) → room ≡ room_for_forms old → All IsCharacter forms → IsFitContent room bytes meta count forms → new ≡ with_image (forms_in count forms) meta old → Loads old bytes new
-image-loads old new room bytes meta count forms room_is characters fit is =
-    let found = content-image room bytes meta count forms characters fit in
-    let stand = subst (CanStand (forms_in count forms)) room_is found.1 in
-    subst (Loads old bytes) (sym is) (record { image = record { image = found.0; stand = stand }; rest = refl })
 
 -- a machine leaves no more room for forms than it has
 room-few : (m : MachineState) → m.room < 4294967296 → room_for_forms m < 4294967296

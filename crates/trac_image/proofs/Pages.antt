@@ -1,5 +1,5 @@
 -- What is written to a buffer, piece by piece.
-use Rattle.trac_image.proofs.Imports.{◌≡◌, ℕ, ◌+◌, ◌-◌, ◌*◌, ◌<◌, ◌≤◌, List, [], ◌∷◌, ◌++◌, length, take, drop, get_or, slice_get, slice_range, Option, Some, None, refl, sym, ap, ◌∙◌, ⊎_elim, arith, true, append-nil, append_assoc, length-append, take-append-drop, drop-drop, drop_all, drop_more, sum_by-cons, slice_get-get_or, slice_get_cases, flat_map, laid, laid_from, content, form_image, four_bytes, gap_bytes, image_of, no_sums, sum_bytes, summed, with_summand, Page, gap_text, wrote, Form, items_of, text_of, cells, form_cells, Text, Item, Byte, Gap}
+use Rattle.trac_image.proofs.Imports.{◌≡◌, ℕ, ◌+◌, ◌-◌, ◌*◌, ◌<◌, ◌≤◌, List, [], ◌∷◌, ◌++◌, length, take, drop, get_or, slice_get, slice_range, Option, Some, refl, sym, ap, ◌∙◌, ⊎_elim, arith, true, append-nil, append_assoc, length-append, take-append-drop, drop-drop, drop_all, drop_more, sum_by-cons, slice_get-get_or, slice_get_cases, flat_map, laid, laid_from, content, form_image, four_bytes, gap_bytes, image_of, no_sums, sum_bytes, summed, with_summand, Page, gap_text, wrote, Form, items_of, text_of, cells, form_cells, Text, Item, Byte, Gap}
 use Rattle.trac_forms.specs.Search.{gap_at, is_gap}
 use Rattle.trac_image.proofs.Buffers.{laid-next}
 use Rattle.trac_image.specs.Pages.{with_byte}
@@ -9,23 +9,13 @@ pub wrote-append : (xs ys : Text) (p : Page) → wrote (xs ++ ys) p ≡ wrote ys
 wrote-append [] ys p = refl
 wrote-append (x ∷ xs) ys p = wrote-append xs ys (with_byte x p)
 
-pub wrote-behind : (xs ys : Text) (p q r : Page) → q ≡ wrote xs p → r ≡ wrote ys q → r ≡ wrote (xs ++ ys) p
-wrote-behind xs ys p q r first second = second ∙ ap (wrote ys) first ∙ sym (wrote-append xs ys p)
+-- a text is written behind what is known
+pub wrote-then : {p q r : Page} {xs ys : Text} → xs ≡ ys → r ≡ wrote xs q → q ≡ p → r ≡ wrote ys p
+wrote-then is last before = last ∙ (λ i. wrote (is i) (before i))
 
 -- the parts of the image of a form are written one after the other
-pub form-wrote : (form : Form) (name : Text) (n b t k : ℕ) (p p₁ p₂ p₃ p₄ p₅ p₆ p₇ : Page) → name ≡ form.name → n ≡ length form.name → b ≡ length form.body → t ≡ length (text_of form.body) → k ≡ form.pointer → p₁ ≡ wrote (four_bytes n) p → p₂ ≡ wrote (four_bytes b) p₁ → p₃ ≡ wrote (four_bytes t) p₂ → p₄ ≡ wrote (four_bytes k) p₃ → p₅ ≡ wrote name p₄ → p₆ ≡ wrote (text_of form.body) p₅ → p₇ ≡ wrote (gap_bytes 0 form.body) p₆ → p₇ ≡ wrote (form_image form) p
-form-wrote form name n b t k p p₁ p₂ p₃ p₄ p₅ p₆ p₇ name_is n_is b_is t_is k_is e₁ e₂ e₃ e₄ e₅ e₆ e₇ =
-    let number = λ (page : Page) (m : ℕ). wrote (four_bytes m) page in
-    let body = text_of form.body ++ gap_bytes 0 form.body in
-    let named = form.name ++ body in
-    let pointed = four_bytes form.pointer ++ named in
-    let counted = four_bytes (length (text_of form.body)) ++ pointed in
-    wrote-behind (four_bytes (length form.name)) (four_bytes (length form.body) ++ counted) p p₁ p₇ (e₁ ∙ ap (number p) n_is)
-    (wrote-behind (four_bytes (length form.body)) counted p₁ p₂ p₇ (e₂ ∙ ap (number p₁) b_is)
-    (wrote-behind (four_bytes (length (text_of form.body))) pointed p₂ p₃ p₇ (e₃ ∙ ap (number p₂) t_is)
-    (wrote-behind (four_bytes form.pointer) named p₃ p₄ p₇ (e₄ ∙ ap (number p₃) k_is)
-    (wrote-behind form.name body p₄ p₅ p₇ (e₅ ∙ ap (λ text. wrote text p₄) name_is)
-    (wrote-behind (text_of form.body) (gap_bytes 0 form.body) p₅ p₆ p₇ e₆ e₇)))))
+pub form-wrote : (form : Form) (p : Page) → wrote (gap_bytes 0 form.body) (wrote (text_of form.body) (wrote form.name (wrote (four_bytes form.pointer) (wrote (four_bytes (length (text_of form.body))) (wrote (four_bytes (length form.body)) (wrote (four_bytes (length form.name)) p)))))) ≡ wrote (form_image form) p
+form-wrote form p = simp wrote-append refl
 
 -- the next form is written
 pub forms-wrote : (all rest : List Form) (form : Form) (p q : Page) → all ≡ form ∷ rest → q ≡ wrote (form_image form) p → wrote (flat_map form_image rest) q ≡ wrote (flat_map form_image all) p
@@ -34,12 +24,8 @@ forms-wrote all rest form p q all_is next =
     ∙ ap (λ forms. wrote (flat_map form_image forms) p) (sym all_is)
 
 -- the parts of what is summed are written one after the other
-pub content-wrote : (forms : List Form) (meta n : ℕ) (p p₁ p₂ p₃ p₄ : Page) → n ≡ length forms → p₁ ≡ wrote (84 ∷ 82 ∷ 65 ∷ 67 ∷ 1 ∷ []) p → p₂ ≡ with_byte meta p₁ → p₃ ≡ wrote (four_bytes n) p₂ → p₄ ≡ wrote (flat_map form_image forms) p₃ → p₄ ≡ wrote (content forms meta) p
-content-wrote forms meta n p p₁ p₂ p₃ p₄ n_is e₁ e₂ e₃ e₄ =
-    let counted = four_bytes (length forms) ++ flat_map form_image forms in
-    wrote-behind (84 ∷ 82 ∷ 65 ∷ 67 ∷ 1 ∷ []) (meta ∷ counted) p p₁ p₄ e₁
-    (wrote-behind (meta ∷ []) counted p₁ p₂ p₄ e₂
-    (wrote-behind (four_bytes (length forms)) (flat_map form_image forms) p₂ p₃ p₄ (e₃ ∙ ap (λ m. wrote (four_bytes m) p₂) n_is) e₄))
+pub content-wrote : (forms : List Form) (meta : ℕ) (p : Page) → wrote (flat_map form_image forms) (wrote (four_bytes (length forms)) (with_byte meta (wrote (84 ∷ 82 ∷ 65 ∷ 67 ∷ 1 ∷ []) p))) ≡ wrote (content forms meta) p
+content-wrote forms meta p = sym (wrote-append (four_bytes (length forms)) (flat_map form_image forms) (with_byte meta (wrote (84 ∷ 82 ∷ 65 ∷ 67 ∷ 1 ∷ []) p)))
 
 text_of-items : (text : Text) (rest : List Item) → text_of (items_of text ++ rest) ≡ text ++ text_of rest
 text_of-items [] rest = refl
@@ -180,7 +166,7 @@ module _ (forms : List Form) (meta : ℕ) (room : List ℕ) (whole last : Page) 
   image-written =
       let text = content forms meta in
       let sums : whole.sums ≡ summed text no_sums = ap (λ (p : Page). p.sums) written ∙ wrote-sums text empty in
-      wrote-behind text (sum_bytes (summed text no_sums)) empty whole last written (ended ∙ ap (λ s. wrote (sum_bytes s) whole) sums)
+      wrote-then (ap sum_bytes sums) ended written ∙ sym (wrote-append text (sum_bytes (summed text no_sums)) empty)
 
   short : 0 + length (image_of forms meta) ≤ 18446744073709551615
   short =

@@ -21,10 +21,6 @@ pub data Deed (f : Function) (args : List Text) (w : World) (m : Meaning) : Type
 
 -- ---- forms of other names
 
--- two texts that are equal to one are equal to each other
-no-other : (a b name : Text) → bytes_eq b a ≡ true → bytes_eq b name ≡ false → bytes_eq a name ≡ false
-no-other a b name e ne = subst (λ t. bytes_eq t name ≡ false) ((bytes_decides b a).0 e) ne
-
 changed-others : (key name : Text) (change : Form → Form) (forms : List Form) → ((form : Form) → (change form).name ≡ form.name) → bytes_eq key name ≡ false → form_named name (changed key change forms) ≡ form_named name forms
 changed-others key name change [] keeps ne = refl
 changed-others key name change (form ∷ forms) keeps ne = go (bytes_eq form.name key) refl (changed-others key name change forms keeps ne)

@@ -210,38 +210,40 @@ end_need output = refl
 
 -- ---- from the last step back to the first
 
--- a run that prints the text t in `steps` steps, with no greater peak than reading the text needs
-record Prints (t : Text) (steps : ℕ) (r : Run) : Type 0 where
-  peak : ℕ
-  bound : peak ≤ 16 + length t
-  is : r ≡ record { output = t; left = []; fate = InputEnded; steps = steps; peak = peak }
+-- in a room that the text fits with the 16 cells more that reading it needs
+module _ (t : Text) (room : ℕ) (le : 16 + length t ≤ room) where
+  -- a run prints the text in `steps` steps, with no greater peak than reading the text needs
+  record Prints (steps : ℕ) (r : Run) : Type 0 where
+    peak : ℕ
+    bound : peak ≤ 16 + length t
+    is : r ≡ record { output = t; left = []; fate = InputEnded; steps = steps; peak = peak }
 
--- n more steps
-prints_later : (t : Text) (room n m steps : ℕ) (s u : State) → Goes n s → after n s ≡ u → peak_of n s ≤ 16 + length t → 16 + length t ≤ room → Prints t steps (run room m u) → Prints t (more n steps) (run room (more n m) s)
-prints_later t room n m steps s u goes to small le r =
-    let bound = r.bound in
-    record { peak = max (peak_of n s) r.peak; bound = omega arith; is = runs_on room n m s goes (omega arith) ∙ ap (λ x. since n (peak_of n s) (run room m x)) to ∙ ap (since n (peak_of n s)) r.is }
+  -- n more steps
+  prints_later : (n m steps : ℕ) (s u : State) → Goes n s → after n s ≡ u → peak_of n s ≤ 16 + length t → Prints steps (run room m u) → Prints (more n steps) (run room (more n m) s)
+  prints_later n m steps s u goes to small r =
+      let bound = r.bound in
+      record { peak = max (peak_of n s) r.peak; bound = omega arith; is = runs_on room n m s goes (omega arith) ∙ ap (λ x. since n (peak_of n s) (run room m x)) to ∙ ap (since n (peak_of n s)) r.is }
 
--- a run that begins with one more step prints the text, too
-prints_next : (t : Text) (room m steps : ℕ) (s u : State) → step s ≡ Next u → need s ≤ 16 + length t → 16 + length t ≤ room → Prints t steps (run room m u) → Prints t (suc steps) (run room (suc m) s)
-prints_next t room m steps s u to small le r =
-    let bound = r.bound in
-    record { peak = max (need s) r.peak; bound = omega arith; is = run_next room m s u (omega arith) to ∙ ap (one_more (need s)) r.is }
+  -- a run that begins with one more step prints the text, too
+  prints_next : (m steps : ℕ) (s u : State) → step s ≡ Next u → need s ≤ 16 + length t → Prints steps (run room m u) → Prints (suc steps) (run room (suc m) s)
+  prints_next m steps s u to small r =
+      let bound = r.bound in
+      record { peak = max (need s) r.peak; bound = omega arith; is = run_next room m s u (omega arith) to ∙ ap (one_more (need s)) r.is }
 
-prints_last : (t : Text) (room m : ℕ) → 16 + length t ≤ room → Prints t 1 (run room (suc m) (asking no_input (t ++ [])))
-prints_last t room m le =
-    let n = end_need (t ++ []) in
-    record { peak = need (asking no_input (t ++ [])); bound = omega arith; is = run_over room m (asking no_input (t ++ [])) InputEnded (omega arith) (ends (t ++ [])) ∙ ap (λ o. record { output = o; left = []; fate = InputEnded; steps = 1; peak = need (asking no_input (t ++ [])) }) (append-nil t) }
+  prints_last : (m : ℕ) → Prints 1 (run room (suc m) (asking no_input (t ++ [])))
+  prints_last m =
+      let n = end_need (t ++ []) in
+      record { peak = need (asking no_input (t ++ [])); bound = omega arith; is = run_over room m (asking no_input (t ++ [])) InputEnded (omega arith) (ends (t ++ [])) ∙ ap (λ o. record { output = o; left = []; fate = InputEnded; steps = 1; peak = need (asking no_input (t ++ [])) }) (append-nil t) }
 
--- after the script was read: 16 steps
-prints_read : (t : Text) (room m : ℕ) → IsBalanced t → 16 + length t ≤ room → Prints t 16 (run room (more 15 (suc m)) (has_read t))
-prints_read t room m b le =
-    let n = idle_peak no_input (t ++ []) in
-    prints_later t room 4 (more 11 (suc m)) 12 (has_read t) (has_opened t) (opens_goes t) (opens_after t) (opens_peak t) le
-    (prints_next t room (more 10 (suc m)) 11 (has_opened t) (has_quoted t) (quotes t b) (quotes_need t b) le
-    (prints_later t room 2 (more 8 (suc m)) 9 (has_quoted t) (idle no_input (t ++ [])) (prints_goes t) (prints_after t) (prints_peak t) le
-    (prints_later t room 8 (suc m) 1 (idle no_input (t ++ [])) (asking no_input (t ++ [])) (idle_goes no_input (t ++ [])) (idle_after no_input (t ++ [])) (omega arith) le
-    (prints_last t room m le))))
+  -- after the script was read: 16 steps
+  prints_read : (m : ℕ) → IsBalanced t → Prints 16 (run room (more 15 (suc m)) (has_read t))
+  prints_read m b =
+      let n = idle_peak no_input (t ++ []) in
+      prints_later 4 (more 11 (suc m)) 12 (has_read t) (has_opened t) (opens_goes t) (opens_after t) (opens_peak t)
+      (prints_next (more 10 (suc m)) 11 (has_opened t) (has_quoted t) (quotes t b) (quotes_need t b)
+      (prints_later 2 (more 8 (suc m)) 9 (has_quoted t) (idle no_input (t ++ [])) (prints_goes t) (prints_after t) (prints_peak t)
+      (prints_later 8 (suc m) 1 (idle no_input (t ++ [])) (asking no_input (t ++ [])) (idle_goes no_input (t ++ [])) (idle_after no_input (t ++ [])) (omega arith)
+      (prints_last m))))
 
 -- all 25 steps, of which the ninth has the greatest need
 pub quoted_law : Quoted
@@ -249,7 +251,7 @@ quoted_law t room allowance balanced plain le enough =
     let p = no_comma_from t plain in
     let m = allowance - 25 in
     let all : allowance ≡ more 25 m = let e = more_is 25 m in omega arith in
-    let r = prints_read t room m balanced le in
+    let r = prints_read t room le m balanced in
     let bound = r.bound in
     let s1 = first (quoting t) in
     let s9 = asking (quoting t) [] in

@@ -6,7 +6,6 @@ use Rattle.trac_language.specs.Text.{Text}
 use Rattle.trac_language.specs.State.{OpenCall, State}
 use Rattle.trac_language.specs.Rule.{Rule, EndCall, rule}
 use Rattle.trac_language.specs.Step.{Next, Over, end_need, need_by, need, step}
-use Rattle.trac_devices.specs.Devices.{Stream}
 use Rattle.trac_laws.specs.LastRead.{reads_last_by}
 use Rattle.trac_core.specs.Machine.{MachineState, Moment, moment, state_of, failing_state_of, MayStep, Counts, EndsRun, Answers}
 use Rattle.trac_core.proofs.Outputs.{later_state, later_outcome, step-later}
@@ -120,8 +119,7 @@ module _ (out : Text) (top : ℕ) (old new : Moment) (no_peak : old.machine.peak
       }
 
 -- the answer of a step whose machine counted from no peak and whose sink held nothing
-pub framed-answers : (out : Text) (top : ℕ) (m next : MachineState) (s t : Stream) (held printed : Text) (answer : Option Fate) → m.peak ≡ 0 → held ≡ [] → Answers (moment m s held) answer (moment next t printed) → Answers (moment (with_peak top m) s out) answer (moment (with_peak (max top next.peak) next) t (out ++ printed))
-framed-answers out top m next s t held printed answer no_peak empty a =
-    let all = answers-so out top (moment m s held) (moment next t printed) no_peak answer a in
-    subst (λ before. Answers (moment (with_peak top m) s before) answer (moment (with_peak (max top next.peak) next) t (out ++ printed)))
-    (ap (λ t. out ++ t) empty ∙ append-nil out) all
+pub framed-answers : (out : Text) (top : ℕ) (old new : Moment) (answer : Option Fate) → old.machine.peak ≡ 0 → old.written ≡ [] → Answers old answer new → Answers (moment (with_peak top old.machine) old.source out) answer (framed out (max top new.machine.peak) new)
+framed-answers out top old new answer no_peak empty a =
+    subst (λ before. Answers (moment (with_peak top old.machine) old.source before) answer (framed out (max top new.machine.peak) new))
+    (ap (λ t. out ++ t) empty ∙ append-nil out) (answers-so out top old new no_peak answer a)

@@ -1,19 +1,19 @@
 -- A run that is shown, step by step beside the run of the definition.
-use Rattle.std.proofs.Common.{◌≡◌, ℕ, suc, max, Bool, true, false, List, [], ◌∷◌, ◌++◌, Option, Some, None, refl, sym, ap, ◌∙◌, subst, append_assoc, append-nil, arith}
+use Rattle.std.proofs.Common.{◌≡◌, ℕ, suc, max, Bool, true, false, List, [], ◌++◌, Option, Some, None, refl, sym, ap, ◌∙◌, subst, append_assoc, append-nil, arith}
+use mathlib.Core.Path.{transport}
 use Rattle.std.specs.Prelude.{◌&&◌, IfSome, if◌then◌else◌, nat_lt, not, slice_index_or}
 use Rattle.std.specs.Io.KnownBytes.{Appends}
 use Rattle.std.proofs.KnownBytes.{Appends-trans}
 use Rattle.trac_language.specs.declared.fate.Fate.{Fate}
-use Rattle.trac_language.specs.declared.fate.Fate.TheVariants.{Halted, InputEnded, Workspace, Steps, InputFailed, OutputFailed}
+use Rattle.trac_language.specs.declared.fate.Fate.TheVariants.{Halted, InputEnded}
 use Rattle.trac_language.specs.Text.{Text}
 use Rattle.trac_language.specs.State.{Memory, Input}
 use Rattle.trac_language.specs.Step.{need}
 use Rattle.trac_devices.specs.Devices.{Stream}
-use Rattle.trac_core.specs.Machine.{MachineState, moment, state_of, state_with, Answers, counts_as_step, fresh_machine}
+use Rattle.trac_core.specs.Machine.{MachineState, Moment, moment, state_of, state_with, Answers, counts_as_step, fresh_machine}
 use Rattle.trac_core.proofs.Moments.{OnCourse, course-none, course-more}
 use Rattle.trac_core.proofs.Reported.{course_to, report_of, reported, reports-made}
 use Rattle.trac_events.specs.Calls.{IsSeen, SeesValue, depth_in, looks_at_call, seen_call}
-use Rattle.trac_events.specs.declared.call.Named.{Named}
 use Rattle.trac_core.specs.declared.machine.open_calls.CallMark.{CallMark}
 use Rattle.trac_space.specs.declared.cell.Cell.{Cell}
 use Rattle.trac_events.specs.declared.before.Before.{Before}
@@ -22,8 +22,8 @@ use Rattle.trac_views.specs.Lines.{dropped_text, end_text, folded_text, head_tex
 use Rattle.trac_views.specs.CallLines.{has_steps, has_strings, is_fault}
 use Rattle.trac_views.specs.declared.views.Views.{Views}
 use Rattle.trac_tracer.specs.Last.{LastNumbers, with_step}
-use Rattle.trac_tracer.specs.ShownCalls.{IsKept, IsValueAfter, AddsCall, seen_text, step_lines}
-use Rattle.trac_tracer.specs.ShownRuns.{AreLinesOf, StepDone, ShownSoFar, ShowsSteps, ShowsRun, none_shown, with_lines}
+use Rattle.trac_tracer.specs.ShownCalls.{CallKept, IsKept, IsValueAfter, StepEnd, AddsCall, seen_text, step_lines}
+use Rattle.trac_tracer.specs.ShownRuns.{AreLinesOf, StepDone, ShownSoFar, ShowsSteps, ShowsRun, end_of, none_shown}
 use Rattle.trac_tracer.proofs.Framing.{framed-answers, need-later, with_peak}
 
 -- what a step needs is the same whatever was printed before it
@@ -32,254 +32,243 @@ need-any memory input out held empty =
     ap (λ o. need (state_with memory input o)) (sym (append-nil out)) ∙ need-later out (state_with memory input [])
     ∙ ap (λ o. need (state_with memory input o)) (sym empty)
 
--- what is seen and told of a machine is the same whatever its peak
+-- what is seen of a machine is the same whatever its peak
 seen_call-any : (asked : Bool) (peak : ℕ) (m : MachineState) → seen_call asked (with_peak peak m) ≡ seen_call asked m
 seen_call-any true peak m = refl
 seen_call-any false peak m = refl
 
 seen-any : (peak : ℕ) (m : MachineState) (asked : Bool) (before : Before) → IsSeen m asked before → IsSeen (with_peak peak m) asked before
-seen-any peak m asked before seen = (
-  seen.0,
-  seen.1,
-  seen.2,
-  seen.3,
-  seen.4,
-  seen.5,
-  seen.6,
-  seen.7 ∙ sym (seen_call-any (looks_at_call m asked) peak m),
-)
+seen-any peak m asked before seen =
+    (seen.0, seen.1, seen.2, seen.3, seen.4, seen.5, seen.6, seen.7 ∙ sym (seen_call-any (looks_at_call m asked) peak m))
 
-told-any : (done : Bool) (peak same width needed : ℕ) (before : Before) (printed : Text) (m : MachineState) (old new : List ℕ) → AddsPrinted done width before needed printed (with_peak peak m) old new → AddsPrinted done width before needed printed (with_peak same m) old new
-told-any true peak same width needed before printed m old new told = told
-told-any false peak same width needed before printed m old new told = told
+-- and so is what is told of it
+module _ (peak : ℕ) (end : StepEnd) where
+  abbrev m : MachineState
+  m = end.machine
 
-sees-any : (call : Option CallMark) (peak same n : ℕ) (m : MachineState) (value : List Cell) → SeesValue (with_peak peak m) call n value → SeesValue (with_peak same m) call n value
-sees-any None peak same n m value sees = sees
-sees-any (Some mark) peak same n m value sees = sees
+  abbrev other : StepEnd
+  other = record end { machine = with_peak peak m }
 
-value-any : (answer : Option Fate) (peak same : ℕ) (before : Before) (m : MachineState) (value : List Cell) → IsValueAfter answer before (with_peak peak m) value → IsValueAfter answer before (with_peak same m) value
-value-any None peak same before m value is = sees-any before.call peak same before.active m value is
-value-any (Some fate) peak same before m value is = is
+  told-any : (done : Bool) (width needed : ℕ) (before : Before) (old new : List ℕ) → AddsPrinted done width before needed end.printed m old new → AddsPrinted done width before needed end.printed (with_peak peak m) old new
+  told-any true width needed before old new told = told
+  told-any false width needed before old new told = told
 
-seen_text-any : (call : Option CallMark) (views : Views) (depth : ℕ) (arguments : List Cell) (named : Named) (deleted : List ℕ) (value : List Cell) (printed : List ℕ) (peak same : ℕ) (m : MachineState) → seen_text views call depth arguments named deleted value printed (with_peak peak m) ≡ seen_text views call depth arguments named deleted value printed (with_peak same m)
-seen_text-any None views depth arguments named deleted value printed peak same m = refl
-seen_text-any (Some mark) views depth arguments named deleted value printed peak same m = refl
+  sees-any : (call : Option CallMark) (n : ℕ) (value : List Cell) → SeesValue m call n value → SeesValue (with_peak peak m) call n value
+  sees-any None n value sees = sees
+  sees-any (Some mark) n value sees = sees
 
-step_lines-any : (done : Bool) (views : Views) (before : Before) (depth : ℕ) (arguments : List Cell) (named : Named) (deleted : List ℕ) (value : List Cell) (printed : List ℕ) (peak same : ℕ) (m : MachineState) → step_lines done views before depth arguments named deleted value printed (with_peak peak m) ≡ step_lines done views before depth arguments named deleted value printed (with_peak same m)
-step_lines-any true views before depth arguments named deleted value printed peak same m =
-    ap (λ t. (if has_strings views then dropped_text before.drops else []) ++ t) (seen_text-any before.call views depth arguments named deleted value printed peak same m)
-step_lines-any false views before depth arguments named deleted value printed peak same m = refl
+  value-any : (answer : Option Fate) (before : Before) (value : List Cell) → IsValueAfter answer before m value → IsValueAfter answer before (with_peak peak m) value
+  value-any None before value is = sees-any before.call before.active value is
+  value-any (Some fate) before value is = is
 
-calls-any : (views : Views) (before : Before) (answer : Option Fate) (depth : ℕ) (arguments : List Cell) (named : Named) (deleted printed : List ℕ) (peak same : ℕ) (m : MachineState) (old new : List ℕ) → AddsCall views before answer depth arguments named deleted printed (with_peak peak m) old new → AddsCall views before answer depth arguments named deleted printed (with_peak same m) old new
-calls-any views before answer depth arguments named deleted printed peak same m old new tells = (
-  tells.0,
-  (
-    value-any answer peak same before m tells.0 tells.1.0,
-    tells.1.1 ∙ ap (λ t. old ++ t) (step_lines-any (nat_lt before.done m.steps) views before depth arguments named deleted tells.0 printed peak same m),
-  ),
-)
+  seen_text-any : (call : Option CallMark) (views : Views) (kept : CallKept) (value : List Cell) → seen_text views call kept value end ≡ seen_text views call kept value other
+  seen_text-any None views kept value = refl
+  seen_text-any (Some mark) views kept value = refl
 
-ends-any : (fault : Bool) (peak same width : ℕ) (m : MachineState) (old new : List ℕ) → AddsWhere fault width (with_peak peak m) old new → AddsWhere fault width (with_peak same m) old new
-ends-any true peak same width m old new told = told
-ends-any false peak same width m old new told = told
+  step_lines-any : (done : Bool) (views : Views) (before : Before) (kept : CallKept) (value : List Cell) → step_lines done views before kept value end ≡ step_lines done views before kept value other
+  step_lines-any true views before kept value =
+      ap (λ t. (if has_strings views then dropped_text before.drops else []) ++ t) (seen_text-any before.call views kept value)
+  step_lines-any false views before kept value = refl
 
--- where a machine stands whose peak is counted from 0 at each step, and what was shown of its run
-abbrev pub so_far : (top : ℕ) → MachineState → (depth : ℕ) → Stream → (out : Text) → LastNumbers → List ℕ → ShownSoFar
-so_far top m depth s out last text = record { at = moment (with_peak top m) s out; depth = depth; last = last; text = text }
+  calls-any : (views : Views) (before : Before) (answer : Option Fate) (kept : CallKept) (old new : List ℕ) → AddsCall views before answer kept end old new → AddsCall views before answer kept other old new
+  calls-any views before answer kept old new tells =
+      (tells.0, (value-any answer before tells.0 tells.1.0, tells.1.1 ∙ ap (λ t. old ++ t) (step_lines-any (nat_lt before.done m.steps) views before kept tells.0)))
 
--- a step from machine m to `next`, in which `before` calls were open before it and `depth` after it
-abbrev pub step_of : MachineState → ℕ → Option Fate → (needed : ℕ) → (printed : Text) → MachineState → ℕ → StepDone
-step_of m before answer needed printed next depth = record { old = m; depth_before = before; answer = answer; needed = needed; printed = printed; new = next; depth = depth }
+  ends-any : (fault : Bool) (width : ℕ) (old new : List ℕ) → AddsWhere fault width m old new → AddsWhere fault width (with_peak peak m) old new
+  ends-any true width old new told = told
+  ends-any false width old new told = told
 
--- the definition's run led from `start` to machine m, and was shown: `new` is `old` with the head and with the text
--- of all steps so far
-pub record IsShown (views : Views) (start : MachineState) (bytes : Stream) (head : List ℕ) (old new : Option (List ℕ)) (top : ℕ) (m : MachineState) (depth : ℕ) (s : Stream) (last : LastNumbers) : Type 0 where
-  pub count : ℕ
-  pub out : Text
-  pub text : List ℕ
-  pub goes : ShowsSteps views count (none_shown views (moment start bytes [])) (so_far top m depth s out last text)
-  pub course : OnCourse start bytes.bytes [] (moment (with_peak top m) s out)
-  pub wrote : Appends old new (head ++ text)
-
-pub shown-none : (views : Views) (room allowance : ℕ) (bytes : Stream) (head : List ℕ) (old new : Option (List ℕ)) → Appends old new head → IsShown views (fresh_machine room allowance) bytes head old new 0 (fresh_machine room allowance) 0 bytes (record { numbers = []; most = views.last })
-shown-none views room allowance bytes head old new wrote =
-    record {
-      count = 0;
-      out = [];
-      text = [];
-      goes = refl;
-      course = course-none (fresh_machine room allowance) bytes [];
-      wrote = subst (Appends old new) (sym (append-nil head)) wrote;
-    }
-
--- before the first step only the head was written
-pub shown-first : (views : Views) (room allowance : ℕ) (bytes : Stream) (old new : Option (List ℕ)) (top : ℕ) (m : MachineState) (depth : ℕ) (last : LastNumbers) (text : List ℕ) → m ≡ fresh_machine room allowance → top ≡ 0 → depth ≡ 0 → last ≡ record { numbers = []; most = views.last } → text ≡ head_text views.calls views.forms → Appends old new (folded_text views.columns 0 text) → IsShown views (fresh_machine room allowance) bytes (folded_text views.columns 0 (head_text views.calls views.forms)) old new top m depth bytes last
-shown-first views room allowance bytes old new top m depth last text m_is top_is depth_is last_is text_is wrote =
-    let start = fresh_machine room allowance in
-    let head = folded_text views.columns 0 (head_text views.calls views.forms) in
-    let written = subst (λ t. Appends old new (folded_text views.columns 0 t)) text_is wrote in
-    subst (λ top. IsShown views start bytes head old new top m depth bytes last) (sym top_is)
-    (subst (λ m. IsShown views start bytes head old new 0 m depth bytes last) (sym m_is)
-    (subst (λ depth. IsShown views start bytes head old new 0 start depth bytes last) (sym depth_is)
-    (subst (λ last. IsShown views start bytes head old new 0 start 0 bytes last) (sym last_is)
-    (shown-none views room allowance bytes head old new written))))
-
--- what was told of a step are its lines
-pub are-lines : (views looked told : Views) (m next : MachineState) (before : Before) (around depth : ℕ) (answer : Option Fate) (needed : ℕ) (arguments : List Cell) (named : Named) (deleted given printed old lines : List ℕ) → looked ≡ views → told ≡ views → given ≡ printed → old ≡ [] → IsSeen m (is_shown_step looked m.steps && not (has_steps looked)) before → depth ≡ depth_in before next around → (is_shown_step told before.done ≡ false → lines ≡ old) → (is_shown_step told before.done ≡ true → has_steps told ≡ true → AddsStep told.width before needed given next old lines) → (is_shown_step looked m.steps ≡ true → has_steps looked ≡ false → IfSome before.call (λ mark. IsKept m.memory looked.width mark arguments named deleted)) → (is_shown_step told before.done ≡ true → has_steps told ≡ false → AddsCall told before answer depth arguments named deleted given next old lines) → AreLinesOf views (step_of m around answer needed printed next depth) lines
-are-lines views looked told m next before around depth answer needed arguments named deleted given printed old lines looked_is told_is given_is empty seen depth_is hidden tells kept calls =
-    let told_so = ap (λ v. is_shown_step v before.done) told_is ∙ ap (is_shown_step views) seen.0 in
-    record {
-      before = before;
-      arguments = arguments;
-      named = named;
-      deleted = deleted;
-      seen = subst (λ views. IsSeen m (is_shown_step views m.steps && not (has_steps views)) before) looked_is seen;
-      depth_is = depth_is;
-      hidden = λ h. hidden (told_so ∙ h) ∙ empty;
-      steps = λ is_shown steps.
-          subst (λ v. AddsStep v.width before needed printed next [] lines) told_is
-          (subst (λ given. AddsStep told.width before needed given next [] lines) given_is
-          (subst (λ old. AddsStep told.width before needed given next old lines) empty
-          (tells (told_so ∙ is_shown) (ap has_steps told_is ∙ steps))));
-      kept = λ is_shown others.
-          subst (λ v. IfSome before.call (λ mark. IsKept m.memory v.width mark arguments named deleted)) looked_is
-          (kept (ap (λ v. is_shown_step v m.steps) looked_is ∙ is_shown) (ap has_steps looked_is ∙ others));
-      calls = λ is_shown others.
-          subst (λ v. AddsCall v before answer depth arguments named deleted printed next [] lines) told_is
-          (subst (λ given. AddsCall told before answer depth arguments named deleted given next [] lines) given_is
-          (subst (λ old. AddsCall told before answer depth arguments named deleted given next old lines) empty
-          (calls (told_so ∙ is_shown) (ap has_steps told_is ∙ others))));
-    }
-
--- the lines of a step don't depend on the peak before it
-told-so : (views : Views) (top least needed found : ℕ) (m next : MachineState) (before depth : ℕ) (answer : Option Fate) (printed lines : List ℕ) → needed ≡ found → AreLinesOf views (step_of m before answer found printed (with_peak 0 next) depth) lines → AreLinesOf views (step_of (with_peak top m) before answer needed printed (with_peak least next) depth) lines
-told-so views top least needed found m next before depth answer printed lines same told =
+-- the lines of a step don't depend on the peaks before it and behind it
+told-so : (views : Views) (top least : ℕ) (done : StepDone) (lines : List ℕ) → AreLinesOf views done lines → AreLinesOf views (record done { old = with_peak top done.old; new = with_peak least done.new }) lines
+told-so views top least done lines told =
     record {
       before = told.before;
-      arguments = told.arguments;
-      named = told.named;
-      deleted = told.deleted;
-      seen = seen-any top m _ told.before told.seen;
+      kept = told.kept;
+      seen = seen-any top done.old _ told.before told.seen;
       depth_is = told.depth_is;
       hidden = told.hidden;
-      steps = λ is_shown steps.
-          told-any (nat_lt told.before.done next.steps) 0 least views.width needed told.before printed next [] lines
-          (subst (λ n. AddsStep views.width told.before n printed (with_peak 0 next) [] lines) (sym same) (told.steps is_shown steps));
-      kept = told.kept;
-      calls = λ is_shown others. calls-any views told.before answer depth told.arguments told.named told.deleted printed 0 least next [] lines (told.calls is_shown others);
+      steps = λ is_shown steps. told-any least (end_of done) (nat_lt told.before.done done.new.steps) views.width done.needed told.before [] lines (told.steps is_shown steps);
+      keeps = told.keeps;
+      calls = λ is_shown others. calls-any least (end_of done) views told.before done.answer told.kept [] lines (told.calls is_shown others);
     }
 
-module _ (views : Views) (start : MachineState) (bytes : Stream) (head : List ℕ) (old new newer : Option (List ℕ)) (top : ℕ) (m next : MachineState) (before depth : ℕ) (s t : Stream) (last : LastNumbers) (held printed : List ℕ) (no_peak : m.peak ≡ 0) (empty : held ≡ []) (shown : IsShown views start bytes head old new top m before s last) where
-  -- the text of a step's lines is written behind that of the earlier steps
-  wrote-more : (text : List ℕ) → Appends new newer text → Appends old newer (head ++ (shown.text ++ text))
-  wrote-more text wrote =
-      subst (Appends old newer) (append_assoc head shown.text text) (Appends-trans old new newer (head ++ shown.text) text shown.wrote wrote)
+-- what was told of a step, by views that were the same when it was looked at and when its lines were added, and which
+-- were added to none
+pub record IsTold (views : Views) (done : StepDone) (lines : List ℕ) : Type 0 where
+  pub looked : Views
+  pub looked_is : looked ≡ views
+  pub told : Views
+  pub told_is : told ≡ views
+  pub old : List ℕ
+  pub none : old ≡ []
+  pub before : Before
+  pub kept : CallKept
+  pub seen : IsSeen done.old (is_shown_step looked done.old.steps && not (has_steps looked)) before
+  pub depth_is : done.depth ≡ depth_in before done.new done.depth_before
+  pub hidden : is_shown_step told before.done ≡ false → lines ≡ old
+  pub steps : is_shown_step told before.done ≡ true → has_steps told ≡ true → AddsStep told.width before done.needed done.printed done.new old lines
+  pub keeps : is_shown_step looked done.old.steps ≡ true → has_steps looked ≡ false → IfSome before.call (λ mark. IsKept done.old.memory looked.width mark kept)
+  pub calls : is_shown_step told before.done ≡ true → has_steps told ≡ false → AddsCall told before done.answer kept (end_of done) old lines
 
-  need-of : max m.peak (need (state_of (moment m s held))) ≡ need (state_of (moment (with_peak top m) s shown.out))
-  need-of =
-      let same = need-any m.memory (state_of (moment m s held)).input shown.out held empty in
-      omega (arith, same, no_peak)
+-- are its lines
+pub are-lines : (views : Views) (done : StepDone) (lines : List ℕ) → IsTold views done lines → AreLinesOf views done lines
+are-lines views done lines h =
+    let told_so = ap (λ v. is_shown_step v h.before.done) h.told_is ∙ ap (is_shown_step views) h.seen.0 in
+    record {
+      before = h.before;
+      kept = h.kept;
+      seen = subst (λ views. IsSeen done.old (is_shown_step views done.old.steps && not (has_steps views)) h.before) h.looked_is h.seen;
+      depth_is = h.depth_is;
+      hidden = λ hidden. h.hidden (told_so ∙ hidden) ∙ h.none;
+      steps = λ is_shown steps.
+          transport (λ i. AddsStep (h.told_is i).width h.before done.needed done.printed done.new (h.none i) lines) (h.steps (told_so ∙ is_shown) (ap has_steps h.told_is ∙ steps));
+      keeps = λ is_shown others.
+          subst (λ v. IfSome h.before.call (λ mark. IsKept done.old.memory v.width mark h.kept)) h.looked_is
+          (h.keeps (ap (λ v. is_shown_step v done.old.steps) h.looked_is ∙ is_shown) (ap has_steps h.looked_is ∙ others));
+      calls = λ is_shown others.
+          transport (λ i. AddsCall (h.told_is i) h.before done.answer h.kept (end_of done) (h.none i) lines) (h.calls (told_so ∙ is_shown) (ap has_steps h.told_is ∙ others));
+    }
 
-  -- one step more was shown, and the run goes on
-  pub shown-more : (taken lines : List ℕ) → m.room ≡ start.room → s.bytes ≡ taken ++ t.bytes → Answers (moment m s held) None (moment next t printed) → AreLinesOf views (step_of m before None next.peak printed (with_peak 0 next) depth) lines → Appends new newer (folded_text views.columns 0 lines) → IsShown views start bytes head old newer (max top next.peak) (with_peak 0 next) depth t (with_step next.steps lines last)
-  shown-more taken lines room_is took answers told wrote =
-      let goes_on = framed-answers shown.out top m next s t held printed None no_peak empty answers in
-      let same = sym (answers.counts.peak ∙ need-of) in
-      record {
-        count = suc shown.count;
-        out = shown.out ++ printed;
-        text = shown.text ++ folded_text views.columns 0 lines;
-        goes = (
-          so_far top m before s shown.out last shown.text,
+-- where a trace stands: its machine, whose peak is counted from 0 at each step, the greatest need of a step so far, how
+-- many calls are open, the source, and the last steps of which something was shown
+pub record TraceAt : Type 0 where
+  pub machine : MachineState
+  pub top : ℕ
+  pub depth : ℕ
+  pub source : Stream
+  pub last : LastNumbers
+
+abbrev moment_at : TraceAt → (out : Text) → Moment
+moment_at at out = moment (with_peak at.top at.machine) at.source out
+
+abbrev so_far : TraceAt → (out : Text) → List ℕ → ShownSoFar
+so_far at out text = record { at = moment_at at out; depth = at.depth; last = at.last; text = text }
+
+-- a step led from `old` to `new`, with these lines: the machine counted from no peak, and gave its peak away
+pub record TracesStep (views : Views) (old : TraceAt) (answer : Option Fate) (new : TraceAt) (lines : List ℕ) : Type 0 where
+  pub held : Text
+  pub printed : Text
+  pub needed : ℕ
+  pub next : MachineState
+  pub no_peak : old.machine.peak ≡ 0
+  pub empty : held ≡ []
+  pub answers : Answers (moment old.machine old.source held) answer (moment next new.source printed)
+  pub needed_is : needed ≡ next.peak
+  pub machine_is : new.machine ≡ with_peak 0 next
+  pub top_is : new.top ≡ max old.top needed
+  pub last_is : new.last ≡ with_step new.machine.steps lines old.last
+  pub told : IsTold views (record { old = old.machine; depth_before = old.depth; answer = answer; needed = needed; printed = printed; new = new.machine; depth = new.depth }) lines
+
+-- a trace of the run in `room` cells and with at most `allowance` steps, over a source with these bytes
+module _ (views : Views) (room allowance : ℕ) (bytes : Stream) where
+  abbrev start : MachineState
+  start = fresh_machine room allowance
+
+  abbrev head : List ℕ
+  head = folded_text views.columns 0 (head_text views.calls views.forms)
+
+  -- the definition's run led to where the trace stands, and was shown: `new` is `old` with the head and with the text of
+  -- all steps so far
+  pub record IsShown (old new : Option (List ℕ)) (at : TraceAt) : Type 0 where
+    pub count : ℕ
+    pub out : Text
+    pub text : List ℕ
+    pub goes : ShowsSteps views count (none_shown views (moment start bytes [])) (so_far at out text)
+    pub course : OnCourse start bytes.bytes [] (moment_at at out)
+    pub wrote : Appends old new (head ++ text)
+
+  -- before the first step only the head was written
+  pub shown-none : (old new : Option (List ℕ)) → Appends old new head → IsShown old new (record { machine = start; top = 0; depth = 0; source = bytes; last = record { numbers = []; most = views.last } })
+  shown-none old new wrote =
+      record { count = 0; out = []; text = []; goes = refl; course = course-none start bytes []; wrote = subst (Appends old new) (sym (append-nil head)) wrote }
+
+  -- one step more
+  module _ (old new newer : Option (List ℕ)) (from to : TraceAt) (lines : List ℕ) (shown : IsShown old new from) where
+    -- the text of a step's lines is written behind that of the earlier steps
+    wrote-more : (text : List ℕ) → Appends new newer text → Appends old newer (head ++ (shown.text ++ text))
+    wrote-more text wrote =
+        subst (Appends old newer) (append_assoc head shown.text text) (Appends-trans old new newer (head ++ shown.text) text shown.wrote wrote)
+
+    -- what it answers over all that was printed
+    answers-all : (answer : Option Fate) (h : TracesStep views from answer to lines) → Answers (moment_at from shown.out) answer (moment_at to (shown.out ++ h.printed))
+    answers-all answer h =
+        let top = ap (max from.top) (sym h.needed_is) ∙ sym h.top_is in
+        subst (Answers (moment_at from shown.out) answer) (λ i. moment (with_peak (top i) (sym h.machine_is i)) to.source (shown.out ++ h.printed))
+        (framed-answers shown.out from.top (moment from.machine from.source h.held) (moment h.next to.source h.printed) answer h.no_peak h.empty h.answers)
+
+    needs : (answer : Option Fate) (h : TracesStep views from answer to lines) → h.next.peak ≡ max from.machine.peak (need (state_of (moment from.machine from.source h.held))) → h.needed ≡ need (state_of (moment_at from shown.out))
+    needs answer h peak =
+        let same = need-any from.machine.memory (state_of (moment from.machine from.source h.held)).input shown.out h.held h.empty in
+        omega (arith, same, h.no_peak, h.needed_is, peak)
+
+    tells-all : (answer : Option Fate) (h : TracesStep views from answer to lines) → AreLinesOf views (record { old = with_peak from.top from.machine; depth_before = from.depth; answer = answer; needed = h.needed; printed = h.printed; new = with_peak to.top to.machine; depth = to.depth }) lines
+    tells-all answer h = told-so views from.top to.top _ lines (are-lines views _ lines h.told)
+
+    -- the run goes on
+    pub shown-more : TracesStep views from None to lines → from.machine.room ≡ room → (taken : Text) → from.source.bytes ≡ taken ++ to.source.bytes → Appends new newer (folded_text views.columns 0 lines) → IsShown old newer to
+    shown-more h room_is taken took wrote =
+        let goes_on = answers-all None h in
+        let text = shown.text ++ folded_text views.columns 0 lines in
+        record {
+          count = suc shown.count;
+          out = shown.out ++ h.printed;
+          text = text;
+          goes = (
+            so_far from shown.out shown.text,
+            (
+              shown.goes,
+              record {
+                printed = h.printed;
+                lines = lines;
+                goes = goes_on;
+                prints = refl;
+                tells = subst (λ n. AreLinesOf views (record { old = with_peak from.top from.machine; depth_before = from.depth; answer = None; needed = n; printed = h.printed; new = with_peak to.top to.machine; depth = to.depth }) lines) (needs None h h.answers.counts.peak) (tells-all None h);
+                new_is = λ i. record { at = moment_at to (shown.out ++ h.printed); depth = to.depth; last = h.last_is i; text = text };
+              },
+            ),
+          );
+          course = course-more start bytes.bytes [] taken (moment_at from shown.out) (moment_at to (shown.out ++ h.printed)) room_is took shown.course goes_on;
+          wrote = wrote-more (folded_text views.columns 0 lines) wrote;
+        }
+
+    last-needs : (fate : Fate) (h : TracesStep views from (Some fate) to lines) → counts_as_step (Some fate) ≡ true → h.needed ≡ need (state_of (moment_at from shown.out))
+    last-needs Halted h counts = needs (Some Halted) h h.answers.counts.peak
+    last-needs InputEnded h counts = needs (Some InputEnded) h h.answers.counts.peak
+    last-needs _ h counts = absurd cc
+
+    -- the run is over
+    pub shown-last : (fate : Fate) (h : TracesStep views from (Some fate) to lines) → from.machine.room ≡ room → from.machine.allowance ≡ allowance → (all : List ℕ) (first : ℕ) → AddsEnd views fate to.top to.machine lines all → first ≡ slice_index_or to.last.numbers 0 1 → Appends new newer (folded_text views.columns 0 all) → (text : List ℕ) × (Appends old newer text × ShowsRun views room allowance bytes to.source fate first text)
+    shown-last fate h room_is allowance_is all first tells first_is wrote =
+        let here = so_far from shown.out shown.text in
+        let at = moment_at to (shown.out ++ h.printed) in
+        let text = shown.text ++ folded_text views.columns 0 all in
+        let answers = answers-all (Some fate) h in (
+          head ++ text,
           (
-            shown.goes,
+            wrote-more (folded_text views.columns 0 all) wrote,
             record {
-              printed = printed;
-              lines = lines;
-              goes = goes_on;
-              prints = refl;
-              tells = told-so views top (max top next.peak) _ next.peak m next before depth None printed lines same told;
-              new_is = refl;
+              count = shown.count;
+              before = here;
+              after = so_far to (shown.out ++ h.printed) text;
+              goes = shown.goes;
+              ends = record {
+                printed = h.printed;
+                needed = h.needed;
+                lines = lines;
+                all = all;
+                answers = answers;
+                prints = refl;
+                needs = last-needs fate h;
+                tells = tells-all (Some fate) h;
+                ends = ends-any to.top (record { depth = to.depth; printed = h.printed; machine = to.machine }) (is_fault fate) views.width
+                    (lines ++ end_text fate to.machine.steps to.top ++ forms_text views to.machine) all tells;
+                new_is = λ i. record { at = at; depth = to.depth; last = h.last_is i; text = text };
+              };
+              left = refl;
+              reports = reports-made start refl fate (course_to start bytes.bytes [] at) (report_of fate at.machine) refl
+                  (reported start bytes.bytes [] here.at at room_is allowance_is shown.course fate answers);
+              first_is = first_is;
+              text_is = refl;
             },
           ),
-        );
-        course = course-more start bytes.bytes [] taken (moment (with_peak top m) s shown.out) (moment (with_peak (max top next.peak) next) t (shown.out ++ printed)) room_is took shown.course goes_on;
-        wrote = wrote-more (folded_text views.columns 0 lines) wrote;
-      }
-
-  needs : (fate : Fate) → Answers (moment m s held) (Some fate) (moment next t printed) → counts_as_step (Some fate) ≡ true → next.peak ≡ need (state_of (moment (with_peak top m) s shown.out))
-  needs Halted answers counts = answers.counts.peak ∙ need-of
-  needs InputEnded answers counts = answers.counts.peak ∙ need-of
-  needs Workspace answers counts = absurd cc
-  needs Steps answers counts = absurd cc
-  needs InputFailed answers counts = absurd cc
-  needs OutputFailed answers counts = absurd cc
-
--- the step with which the run is over
-module _ (views : Views) (room allowance : ℕ) (bytes : Stream) (old new newer : Option (List ℕ)) (top : ℕ) (m next : MachineState) (before depth : ℕ) (s t : Stream) (last : LastNumbers) (held printed lines all : List ℕ) (no_peak : m.peak ≡ 0) (empty : held ≡ []) (room_is : m.room ≡ room) (allowance_is : m.allowance ≡ allowance) where
-  pub shown-last : (fate : Fate) (first : ℕ) (shown : IsShown views (fresh_machine room allowance) bytes (folded_text views.columns 0 (head_text views.calls views.forms)) old new top m before s last) (told : AreLinesOf views (step_of m before (Some fate) next.peak printed (with_peak 0 next) depth) lines) → Answers (moment m s held) (Some fate) (moment next t printed) → AddsEnd views fate (max top next.peak) (with_peak 0 next) lines all → first ≡ slice_index_or (with_step next.steps lines last).numbers 0 1 → Appends new newer (folded_text views.columns 0 all) → (text : List ℕ) × (Appends old newer text × ShowsRun views room allowance bytes t fate first text)
-  shown-last fate first shown told answers tells first_is wrote =
-      let start = fresh_machine room allowance in
-      let head = folded_text views.columns 0 (head_text views.calls views.forms) in
-      let out = shown.out in
-      let here = so_far top m before s out last shown.text in
-      let at = moment (with_peak (max top next.peak) next) t (out ++ printed) in
-      let framed = framed-answers out top m next s t held printed (Some fate) no_peak empty answers in (
-        head ++ (shown.text ++ folded_text views.columns 0 all),
-        (
-          wrote-more views start bytes head old new newer top m next before depth s t last held printed no_peak empty shown (folded_text views.columns 0 all) wrote,
-          record {
-            count = shown.count;
-            before = here;
-            after = with_lines views lines all at depth here;
-            goes = shown.goes;
-            ends = record {
-              printed = printed;
-              needed = next.peak;
-              lines = lines;
-              all = all;
-              answers = framed;
-              prints = refl;
-              needs = needs views start bytes head old new newer top m next before depth s t last held printed no_peak empty shown fate answers;
-              tells = told-so views top (max top next.peak) next.peak next.peak m next before depth (Some fate) printed lines refl told;
-              ends = ends-any (is_fault fate) 0 (max top next.peak) views.width next
-                  (lines ++ end_text fate next.steps (max top next.peak) ++ forms_text views next) all tells;
-              new_is = refl;
-            };
-            left = refl;
-            reports = reports-made start refl fate (course_to start bytes.bytes [] at) (report_of fate at.machine) refl
-                (reported start bytes.bytes [] here.at at room_is allowance_is shown.course fate framed);
-            first_is = first_is;
-            text_is = refl;
-          },
-        ),
-      )
-
--- the lines of a step, by the machine after it whose peak counts from 0 again
-counted-again : (views : Views) (m next after : MachineState) (before depth : ℕ) (answer : Option Fate) (needed : ℕ) (printed lines : List ℕ) → needed ≡ next.peak → after ≡ with_peak 0 next → AreLinesOf views (step_of m before answer needed printed after depth) lines → AreLinesOf views (step_of m before answer next.peak printed (with_peak 0 next) depth) lines
-counted-again views m next after before depth answer needed printed lines needed_is after_is told =
-    subst (λ n. AreLinesOf views (step_of m before answer n printed (with_peak 0 next) depth) lines) needed_is
-    (subst (λ a. AreLinesOf views (step_of m before answer needed printed a depth) lines) after_is told)
-
--- one step more was shown, by the lines that were told of it
-pub shown-on : (views : Views) (start : MachineState) (bytes : Stream) (head : List ℕ) (old new newer : Option (List ℕ)) (top more needed number : ℕ) (m next after : MachineState) (before depth : ℕ) (s t : Stream) (last newest : LastNumbers) (held printed lines taken : List ℕ) → m.room ≡ start.room → m.peak ≡ 0 → held ≡ [] → s.bytes ≡ taken ++ t.bytes → Answers (moment m s held) None (moment next t printed) → IsShown views start bytes head old new top m before s last → AreLinesOf views (step_of m before None needed printed after depth) lines → needed ≡ next.peak → after ≡ with_peak 0 next → more ≡ max top needed → number ≡ after.steps → newest ≡ with_step number lines last → Appends new newer (folded_text views.columns 0 lines) → IsShown views start bytes head old newer more after depth t newest
-shown-on views start bytes head old new newer top more needed number m next after before depth s t last newest held printed lines taken room_is no_peak empty took answers shown told needed_is after_is more_is number_is newest_is wrote =
-    let here = counted-again views m next after before depth None needed printed lines needed_is after_is told in
-    let on = shown-more views start bytes head old new newer top m next before depth s t last held printed no_peak empty shown taken lines room_is took answers here wrote in
-    let steps : number ≡ next.steps = number_is ∙ ap (λ (a : MachineState). a.steps) after_is in
-    let last_is : newest ≡ with_step next.steps lines last = newest_is ∙ ap (λ n. with_step n lines last) steps in
-    subst (λ last. IsShown views start bytes head old newer more after depth t last) (sym last_is)
-    (subst (λ top. IsShown views start bytes head old newer top after depth t (with_step next.steps lines last)) (sym (more_is ∙ ap (max top) needed_is))
-    (subst (λ after. IsShown views start bytes head old newer (max top next.peak) after depth t (with_step next.steps lines last)) (sym after_is) on))
-
--- the last step, as it was told
-pub shown-over : (views telling : Views) (room allowance : ℕ) (bytes : Stream) (old new newer : Option (List ℕ)) (top more needed number first : ℕ) (fate : Fate) (m next after : MachineState) (before depth : ℕ) (s t : Stream) (last newest : LastNumbers) (held printed lines all : List ℕ) → m.room ≡ room → m.allowance ≡ allowance → m.peak ≡ 0 → held ≡ [] → Answers (moment m s held) (Some fate) (moment next t printed) → IsShown views (fresh_machine room allowance) bytes (folded_text views.columns 0 (head_text views.calls views.forms)) old new top m before s last → AreLinesOf views (step_of m before (Some fate) needed printed after depth) lines → needed ≡ next.peak → after ≡ with_peak 0 next → more ≡ max top needed → number ≡ after.steps → newest ≡ with_step number lines last → telling ≡ views → AddsEnd telling fate more after lines all → first ≡ slice_index_or newest.numbers 0 1 → Appends new newer (folded_text views.columns 0 all) → (text : List ℕ) × (Appends old newer text × ShowsRun views room allowance bytes t fate first text)
-shown-over views telling room allowance bytes old new newer top more needed number first fate m next after before depth s t last newest held printed lines all room_is allowance_is no_peak empty answers shown told needed_is after_is more_is number_is newest_is telling_is tells first_is wrote =
-    let here = counted-again views m next after before depth (Some fate) needed printed lines needed_is after_is told in
-    let steps : number ≡ next.steps = number_is ∙ ap (λ (a : MachineState). a.steps) after_is in
-    let last_is : newest ≡ with_step next.steps lines last = newest_is ∙ ap (λ n. with_step n lines last) steps in
-    let ends = subst (λ top. AddsEnd views fate top (with_peak 0 next) lines all) (more_is ∙ ap (max top) needed_is)
-    (subst (λ after. AddsEnd views fate more after lines all) after_is
-    (subst (λ views. AddsEnd views fate more after lines all) telling_is tells)) in
-    shown-last views room allowance bytes old new newer top m next before depth s t last held printed lines all no_peak empty room_is allowance_is fate first shown here answers ends
-    (first_is ∙ ap (λ (l : LastNumbers). slice_index_or l.numbers 0 1) last_is) wrote
+        )

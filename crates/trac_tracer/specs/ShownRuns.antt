@@ -4,20 +4,18 @@ use Rattle.std.specs.Prelude.{IfSome, None, Option, Some, max, slice_index_or}
 use Rattle.trac_language.specs.Text.{Text}
 use Rattle.trac_language.specs.Step.{need}
 use Rattle.trac_language.specs.declared.fate.Fate.{Fate}
-use Rattle.trac_space.specs.declared.cell.Cell.{Cell}
 use Rattle.trac_devices.specs.Devices.{Stream}
 use Rattle.trac_core.specs.Machine.{MachineState, Moment, moment, state_of, GoesOn, Answers, Reports}
 use Rattle.trac_core.specs.Machine.{counts_as_step, course, fresh_machine}
 use Rattle.trac_events.specs.Calls.{IsSeen, depth_in}
 use Rattle.trac_events.specs.declared.before.Before.{Before}
-use Rattle.trac_events.specs.declared.call.Named.{Named}
 use Rattle.trac_views.specs.Faults.{AddsEnd, AddsStep, is_shown_step}
 use Rattle.trac_views.specs.Lines.{folded_text, head_text}
 use Rattle.trac_views.specs.CallLines.{has_steps}
 use Rattle.trac_views.specs.declared.views.Views.{Views}
 use Rattle.trac_tracer.specs.Last.{LastNumbers, with_step}
 use Rattle.trac_events.specs.Places.{first_place}
-use Rattle.trac_tracer.specs.ShownCalls.{IsKept, AddsCall}
+use Rattle.trac_tracer.specs.ShownCalls.{CallKept, IsKept, StepEnd, AddsCall}
 use Rattle.trac_tracer.specs.declared.shown.Progress.{Progress}
 
 -- where a run that is shown stands before its first step: it has read nothing, no call is open, and no step needed
@@ -44,26 +42,27 @@ pub record StepDone : Type 0 where
   pub new : MachineState
   pub depth : ℕ
 
+-- what a step left
+abbrev pub end_of : StepDone → StepEnd
+end_of done = record { depth = done.depth; printed = done.printed; machine = done.new }
+
 -- the lines of a step: none if it isn't shown; if steps themselves are shown, all that is told of the
 -- step; else the call that the step performed, by what was kept of that call before
 pub record AreLinesOf (views : Views) (done : StepDone) (lines : List ℕ) : Type 0 where
   pub before : Before
-  pub arguments : List Cell
-  pub named : Named
-  pub deleted : List ℕ
+  pub kept : CallKept
   pub seen : IsSeen done.old (is_shown_step views done.old.steps && not (has_steps views)) before
   pub depth_is : done.depth ≡ depth_in before done.new done.depth_before
   pub hidden : is_shown_step views done.old.steps ≡ false → lines ≡ []
   pub steps :
       is_shown_step views done.old.steps ≡ true → has_steps views ≡ true →
       AddsStep views.width before done.needed done.printed done.new [] lines
-  pub kept :
+  pub keeps :
       is_shown_step views done.old.steps ≡ true → has_steps views ≡ false →
-      IfSome before.call (λ mark. IsKept done.old.memory views.width mark arguments named deleted)
+      IfSome before.call (λ mark. IsKept done.old.memory views.width mark kept)
   pub calls :
       is_shown_step views done.old.steps ≡ true → has_steps views ≡ false →
-      AddsCall views before done.answer done.depth arguments named deleted done.printed done.new
-      [] lines
+      AddsCall views before done.answer kept (end_of done) [] lines
 
 -- how far a run that is shown has come: its machine, with all that it printed; how many calls are open;
 -- the last steps of which something was shown; and what was written

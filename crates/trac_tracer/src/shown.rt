@@ -8,7 +8,7 @@ ghost use Rattle.trac_views.specs.CallLines.{event_text, has_steps, has_strings,
 ghost use Rattle.trac_views.specs.Faults.{AddsDone, AddsEnd, AddsStep, AddsWhere, forms_text};
 ghost use Rattle.trac_views.specs.Faults.{is_shown_step};
 ghost use Rattle.trac_tracer.specs.ShownRuns.{first_progress};
-ghost use Rattle.trac_tracer.specs.ShownCalls.{IsKept, AddsCall, made_text, seen_text, touched_of};
+ghost use Rattle.trac_tracer.specs.ShownCalls.{IsKept, AddsCall, kept_in, made_text, seen_text, touched_of};
 
 use crate::oddities::oddity_of;
 use std::alloc::{AllocError, Allocator};
@@ -123,8 +123,7 @@ impl<A: Allocator + Copy> Shown<A> {
             IfOk result (IsSeen machine.now (asked && not (has_steps self.old.views))) }
         ensures kept { is_shown_step self.old.views machine.now.steps ≡ true →
             has_steps self.old.views ≡ false → IfOk result (λ before. IfSome before.call
-            (λ mark. IsKept machine.now.memory self.old.views.width mark self.new.arguments.items
-            self.new.named self.new.deleted.items)) }
+            (λ mark. IsKept machine.now.memory self.old.views.width mark (kept_in self.new))) }
         ensures cleared { self.new.lines.items ≡ [] }
         ensures views { self.new.views ≡ self.old.views }
         ensures peak { self.new.peak ≡ self.old.peak }
@@ -144,7 +143,7 @@ impl<A: Allocator + Copy> Shown<A> {
     #[inline(never)]
     fn look_at_call(&mut self, machine: &Machine, call: CallMark) -> Result<(), AllocError>
         ensures kept { OnOk result (IsKept machine.now.memory self.old.views.width call
-            self.new.arguments.items self.new.named self.new.deleted.items) }
+            (kept_in self.new)) }
         ensures lines { self.new.lines ≡ self.old.lines }
         ensures views { self.new.views ≡ self.old.views }
         ensures peak { self.new.peak ≡ self.old.peak }
@@ -187,8 +186,9 @@ impl<A: Allocator + Copy> Shown<A> {
             before.now need printed.now machine.now self.old.lines.items self.new.lines.items) }
         ensures calls { is_shown_step self.old.views before.now.done ≡ true →
             has_steps self.old.views ≡ false → OnOk result (AddsCall self.old.views before.now fate
-            self.new.depth self.old.arguments.items self.old.named self.old.deleted.items
-            printed.now machine.now self.old.lines.items self.new.lines.items) }
+            (kept_in self.old)
+            (record { depth = self.new.depth; printed = printed.now; machine = machine.now })
+            self.old.lines.items self.new.lines.items) }
     {
         self.peak = self.peak.max(need);
         self.depth = before.depth_after(machine, self.depth);
@@ -258,9 +258,8 @@ impl<A: Allocator + Copy> Shown<A> {
         ensures lines { has_steps self.old.views ≡ true →
             OnOk result (self.new.lines.items ≡ self.old.lines.items) }
         ensures called { has_steps self.old.views ≡ false → OnOk result (self.new.lines.items ≡
-            self.old.lines.items ++ seen_text self.old.views before.now.call self.old.depth
-            self.old.arguments.items self.old.named self.old.deleted.items value.now printed.now
-            machine.now) }
+            self.old.lines.items ++ seen_text self.old.views before.now.call (kept_in self.old) value.now
+            (record { depth = self.old.depth; printed = printed.now; machine = machine.now })) }
         ensures views { self.new.views ≡ self.old.views }
         ensures peak { self.new.peak ≡ self.old.peak }
         ensures depth { self.new.depth ≡ self.old.depth }

@@ -7,7 +7,7 @@ use Rattle.trac_core.proofs.call.answer_alone.Goals as goal
 pub returns-in-None-clause-answers : goal.returns-in-None-clause-answers
 returns-in-None-clause-answers c = λ source written.
     let n = c.requires.named in
-    answers-nothing c.args.work.now c.args.call.place (sym n.names ∙ c.in-None.is) n.sound c.args.meta.now source written
+    answers-nothing (scene c.args.work.now c.args.meta.now source written) c.args.call.place (record { sound = n.sound; innermost = n.innermost; names = sym n.names ∙ c.in-None.is })
 
 pub returns-in-PrintString-clause-answers : goal.returns-in-PrintString-clause-answers
 returns-in-PrintString-clause-answers c = λ source written.

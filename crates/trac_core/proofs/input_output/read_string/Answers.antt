@@ -17,19 +17,19 @@ returns-in-Meta-2-clause-answers g c = λ told place written call.
     read-to-meta c.args.work.now c.read_text.new.work place c.args.meta reads.0 call reads.1.0 c.read_text.ensures.sound _ _ written gave.0 gave.1
 
 pub returns-in-Meta-2-clause-stands : goal.returns-in-Meta-2-clause-stands
-returns-in-Meta-2-clause-stands g c = reads-stands _ _ _ _ c.read_text.ensures.sound c.in-Meta.ensures.reads.1.0
+returns-in-Meta-2-clause-stands g c = reads-stands _ _ _ _ c.in-Meta.ensures.reads.1.0 c.read_text.ensures.sound
 
 pub returns-in-Meta-clause-takes : goal.returns-in-Meta-clause-takes
 returns-in-Meta-clause-takes g c = λ told.
     let reads = c.in-Meta.ensures.reads in
     let gave = reads.1.1 told in
-    (reads.0 ++ c.args.meta ∷ [], reads-take c.args.meta c.args.work.now c.read_text.new.work reads.0 (c.args.meta ∷ []) _ _ reads.1.0 c.read_text.ensures.sound (omega arith) gave.0)
+    (reads.0 ++ c.args.meta ∷ [], reads-take c.args.meta c.args.work.now c.read_text.new.work reads.0 reads.1.0 (c.args.meta ∷ []) _ _ c.read_text.ensures.sound (omega arith) gave.0)
 
 pub returns-in-Meta-2-clause-takes : goal.returns-in-Meta-2-clause-takes
 returns-in-Meta-2-clause-takes g c = λ told.
     let reads = c.in-Meta.ensures.reads in
     let gave = reads.1.1 told in
-    (reads.0 ++ c.args.meta ∷ [], reads-take c.args.meta c.args.work.now c.read_text.new.work reads.0 (c.args.meta ∷ []) _ _ reads.1.0 c.read_text.ensures.sound (omega arith) gave.0)
+    (reads.0 ++ c.args.meta ∷ [], reads-take c.args.meta c.args.work.now c.read_text.new.work reads.0 reads.1.0 (c.args.meta ∷ []) _ _ c.read_text.ensures.sound (omega arith) gave.0)
 
 pub returns-in-Ended-clause-answers : goal.returns-in-Ended-clause-answers
 returns-in-Ended-clause-answers g c = λ told place written call.
@@ -46,7 +46,7 @@ returns-in-Ended-2-clause-answers g c = λ told place written call.
     read-some c.args.work.now c.read_text.new.work place c.args.meta reads.0 call reads.1.0 c.read_text.ensures.sound _ _ written some gave.0 gave.1 gave.2
 
 pub returns-in-Ended-2-clause-stands : goal.returns-in-Ended-2-clause-stands
-returns-in-Ended-2-clause-stands g c = reads-stands _ _ _ _ c.read_text.ensures.sound c.in-Ended.ensures.reads.1.0
+returns-in-Ended-2-clause-stands g c = reads-stands _ _ _ _ c.in-Ended.ensures.reads.1.0 c.read_text.ensures.sound
 
 pub returns-in-Failed-clause-answers : goal.returns-in-Failed-clause-answers
 returns-in-Failed-clause-answers g c = λ told place written call.
@@ -64,4 +64,4 @@ pub returns-in-Full-clause-takes : goal.returns-in-Full-clause-takes
 returns-in-Full-clause-takes g c = λ told.
     let reads = c.in-Full.ensures.reads in
     let gave = reads.1.1 told in
-    (reads.0 ++ gave.0 ∷ [], reads-take c.args.meta c.args.work.now c.read_text.new.work reads.0 (gave.0 ∷ []) _ _ reads.1.0 c.read_text.ensures.sound (omega arith) gave.1.0)
+    (reads.0 ++ gave.0 ∷ [], reads-take c.args.meta c.args.work.now c.read_text.new.work reads.0 reads.1.0 (gave.0 ∷ []) _ _ c.read_text.ensures.sound (omega arith) gave.1.0)

@@ -14,7 +14,7 @@ returns-clause-passes c =
     let after = c.after_first.ensures in
     let some = some-active old.active c.requires.first.0 c.requires.first.1.0 in
     let less = length-drop (1 + n) old.active in
-    let all = All-after IsOrdinary n (text_of_cells old.active) c.after_first.result.now c.requires.first.0 c.requires.first.1.0 c.requires.first.1.1 (omega arith) after.text c.ordinary_characters-count.ensures.ordinary in
+    let all = All-after IsOrdinary n (text_of_cells old.active) c.after_first.result.now c.requires.first (omega arith) after.text c.ordinary_characters-count.ensures.ordinary in
     rw (c.from.ensures, c.active_to_neutral.ensures.moved)
     (record {
       passes = λ meta. characters-pass meta (1 + n) old c.requires.sound.active (omega arith) all;

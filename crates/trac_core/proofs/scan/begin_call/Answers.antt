@@ -52,4 +52,4 @@ pub returns-clause-passes : goal.returns-clause-passes
 returns-clause-passes c =
     let o = opened c.args.work.now _ c.args.mode c.args.characters c.requires.first c.requires.one c.active_to_cell.ensures.turned in
     let run = c.add_run.ensures in
-    step-run _ _ _ c.add_run.result c.args.most o.scans o.no_larger o.shorter c.requires.some run.passes run.few run.shorter
+    step-run _ _ _ c.add_run.result c.args.most (one-step _ _ c.args.most o.scans o.no_larger o.shorter c.requires.some) run.passes run.few run.shorter

@@ -13,7 +13,7 @@ returns-clause-passes c =
     let after = c.after_first.ensures in
     let some = some-active old.active c.requires.first.0 c.requires.first.1.0 in
     let less = length-drop (1 + n) old.active in
-    let all = All-after IsLayout n (text_of_cells old.active) c.after_first.result.now c.requires.first.0 c.requires.first.1.0 c.requires.first.1.1 (omega arith) after.text c.layout_characters-count.ensures.layout in
+    let all = All-after IsLayout n (text_of_cells old.active) c.after_first.result.now c.requires.first (omega arith) after.text c.layout_characters-count.ensures.layout in
     rw (c.from.ensures, c.drop_active.ensures.rest)
     (record {
       passes = λ meta. layouts-pass meta (1 + n) old c.requires.sound.active (omega arith) all;

@@ -8,4 +8,4 @@ returns-clause-makes c = λ name.
     let w = c.args.work.now in
     let args = name ∷ texts w c.args.arguments in
     c.give_bits.ensures.makes Complement args c.args.arguments.scanned
-    (bits-valued Complement args w.forms complement _ _ _ _ _ (λ _. refl) (λ _. refl) c.next-first.ensures.text c.digits_of-digits.ensures.prefix c.digits_of-digits.ensures.bits refl)
+    (bits-valued Complement args complement _ (λ _. refl) (λ _. refl) w.forms _ _ _ _ c.next-first.ensures.text c.digits_of-digits.ensures.prefix c.digits_of-digits.ensures.bits refl)

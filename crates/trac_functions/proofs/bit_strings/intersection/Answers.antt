@@ -10,5 +10,5 @@ returns-clause-makes c = λ name.
     let second = c.next-second.ensures.text ∙ c.next-first.ensures.later 0 in
     let right = c.digits_of-right.ensures.bits ∙ ap (λ t. bits t) second in
     c.give_bits.ensures.makes Intersection (name ∷ ts) c.args.arguments.scanned
-    (bits-valued Intersection (name ∷ ts) w.forms (λ l. intersection l (bits (argument ts 1))) _ _ _ _ _ (λ _. refl) (λ _. refl) c.next-first.ensures.text c.digits_of-left.ensures.prefix c.digits_of-left.ensures.bits
+    (bits-valued Intersection (name ∷ ts) (λ l. intersection l (bits (argument ts 1))) _ (λ _. refl) (λ _. refl) w.forms _ _ _ _ c.next-first.ensures.text c.digits_of-left.ensures.prefix c.digits_of-left.ensures.bits
     (ap (intersection (bits_at w.neutral c.digits_of-left.result)) right))

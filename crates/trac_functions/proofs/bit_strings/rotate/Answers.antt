@@ -13,5 +13,5 @@ returns-clause-makes c = λ name.
     let long = length-at w.neutral c.digits_of-digits.result c.digits_of-digits.ensures.digits in
     let bits_is : c.max-bits.result ≡ max (length l) 1 = omega (arith, long, c.max-bits.ensures) in
     c.give_bits.ensures.makes Rotate (name ∷ ts) c.args.arguments.scanned
-    (bits-valued Rotate (name ∷ ts) w.forms (rotated (number (argument ts 0))) _ _ _ _ _ (λ _. refl) (λ _. refl) second c.digits_of-digits.ensures.prefix c.digits_of-digits.ensures.bits
+    (bits-valued Rotate (name ∷ ts) (rotated (number (argument ts 0))) _ (λ _. refl) (λ _. refl) w.forms _ _ _ _ second c.digits_of-digits.ensures.prefix c.digits_of-digits.ensures.bits
     (rotation-any _ c.rotation_of-by.result c.max-bits.result l bits_is c.rotation_of-by.ensures ∙ ap (λ n. rotated n l) number_is))

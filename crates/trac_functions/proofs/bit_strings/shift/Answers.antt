@@ -18,5 +18,5 @@ returns-clause-makes c = λ name.
     let bounded = c.requires.sound.bounded in
     let room : length l ≤ 50331648 = omega (arith, long) in
     c.give_bits.ensures.makes Shift (name ∷ ts) c.args.arguments.scanned
-    (bits-valued Shift (name ∷ ts) w.forms (shifted (number (argument ts 0))) _ _ _ _ _ (λ _. refl) (λ _. refl) second c.digits_of-digits.ensures.prefix c.digits_of-digits.ensures.bits
+    (bits-valued Shift (name ∷ ts) (shifted (number (argument ts 0))) _ (λ _. refl) (λ _. refl) w.forms _ _ _ _ second c.digits_of-digits.ensures.prefix c.digits_of-digits.ensures.bits
     (shift_same d by.negative by.size 50331648 l room c.shift_of-by.ensures.negative c.shift_of-by.ensures.size ∙ ap (λ n. shifted n l) number_is))

@@ -1,4 +1,4 @@
-use Rattle.trac_functions.proofs.Imports.{◌≡◌, ℕ, ◌<◌, ◌≤◌, ◌∷◌, [], List, drop, sym, ap, ◌∙◌, arith, false, refl, remove, DeleteDefinition, Text, Form, without, Input, argument, meaning_of, silent, Contents, IsSound, without-at, without-none, Arguments, world, texts, texts_from, AreArguments, IsValue}
+use Rattle.trac_functions.proofs.Imports.{◌≡◌, ℕ, ◌<◌, ◌≤◌, ◌∷◌, [], List, drop, sym, ap, ◌∙◌, arith, false, refl, remove, DeleteDefinition, Text, without, Input, argument, meaning_of, silent, Contents, IsSound, without-at, without-none, Arguments, world, texts, texts_from, AreArguments, IsValue}
 use Rattle.trac_functions.proofs.ArgumentLemmas.{none-left}
 use Rattle.trac_functions.proofs.FormLemmas.{null-value, arguments-kept, next-left, only-forms, parted, parted-texts, unnamed, unnamed-none, unnamed-first}
 use Rattle.trac_functions.proofs.form_calls.delete_definition.Goals as goal
@@ -12,10 +12,9 @@ left old new ts sound all same name =
     ([], null-value DeleteDefinition (name ∷ ts) old new sound means (λ _. refl) same)
 
 -- one name was taken, and the form that it names was removed
-leaves : (now new : Contents) (a b : Arguments) → AreArguments now a → a.from ≤ a.end → texts now b ≡ drop 1 (texts now a) → (forms : List Form) → new ≡ record now { forms = forms } → forms ≡ without (argument (texts now a) 0) now.forms → unnamed (texts new b) new.forms ≡ unnamed (texts now a) now.forms
-leaves now new a b are some rest forms is gone =
-    ap (λ cells. unnamed (texts_from cells b.from b.end) new.forms) (ap (λ (w : Contents). w.neutral) is)
-    ∙ ap (unnamed (texts now b)) (ap (λ (w : Contents). w.forms) is ∙ gone)
+leaves : (now new : Contents) (a b : Arguments) → AreArguments now a → a.from ≤ a.end → texts now b ≡ drop 1 (texts now a) → new ≡ record now { forms = without (argument (texts now a) 0) now.forms } → unnamed (texts new b) new.forms ≡ unnamed (texts now a) now.forms
+leaves now new a b are some rest is =
+    ap (λ (w : Contents). unnamed (texts_from w.neutral b.from b.end) w.forms) is
     ∙ sym (unnamed-first (argument (texts now a) 0) (texts now b) now.forms are.sound.forms)
     ∙ sym (ap (λ names. unnamed names now.forms) (next-left now a b some rest))
 
@@ -38,7 +37,7 @@ loop-name-preserved c =
           rw w.work-is (record {
             left = arguments-kept now new b c.next_form.ensures.left w.delete.ensures.sound (ap (λ (v : Contents). v.neutral) is);
             same = only-forms c.args.work.now now new _ i.same is;
-            leaves = leaves now new a b i.left some c.next_form.ensures.rest _ is (sym (without-at _ now.forms w.in-Some.form.0 i.left.sound.forms w.in-Some.ensures.found)) ∙ i.leaves;
+            leaves = leaves now new a b i.left some c.next_form.ensures.rest (is ∙ ap (λ forms. record now { forms = forms }) (sym (without-at _ now.forms w.in-Some.form.0 i.left.sound.forms w.in-Some.ensures.found))) ∙ i.leaves;
           }))
       | in_default w ↦ (
           let new = c.next_form.new.work in
@@ -46,7 +45,7 @@ loop-name-preserved c =
           rw w.work-is (record {
             left = rw is c.next_form.ensures.left;
             same = only-forms c.args.work.now now new now.forms i.same is;
-            leaves = leaves now new a b i.left some c.next_form.ensures.rest now.forms is (sym (without-none _ now.forms w.in_default.ensures.found)) ∙ i.leaves;
+            leaves = leaves now new a b i.left some c.next_form.ensures.rest (is ∙ ap (λ forms. record now { forms = forms }) (sym (without-none _ now.forms w.in_default.ensures.found))) ∙ i.leaves;
           }))
     ]
 

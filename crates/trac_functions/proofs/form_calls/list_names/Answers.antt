@@ -7,30 +7,30 @@ use Rattle.trac_functions.proofs.form_calls.list_names.Goals as goal
 use Rattle.trac_functions.proofs.form_calls.list_names.Goals.{in-Some+else-not-put_name, in_default}
 
 -- the name that is put next, where contents that were told by `was` are now the same
-module _ (old was now : Contents) (same : now ≡ was) (a b k i : ℕ) (put : HasPut old was (names (part_text old.neutral a b) old.forms) (names (part_text old.neutral a b) (drop k old.forms))) (part : IsTextPart old.neutral a b) (at : (i ≡ k) × (k < length was.forms)) where
+module _ (old was now : Contents) (same : now ≡ was) (a b k i : ℕ) (put : HasPut old (names (part_text old.neutral a b) old.forms) was (names (part_text old.neutral a b) (drop k old.forms))) (part : IsTextPart old.neutral a b) (at : (i ≡ k) × (k < length was.forms)) where
   abbrev line : Text
   line = part_text now.neutral a b ++ name_at now.forms i
 
-  here : HasPut old now (names (part_text old.neutral a b) old.forms) (names (part_text old.neutral a b) (drop k old.forms))
+  here : HasPut old (names (part_text old.neutral a b) old.forms) now (names (part_text old.neutral a b) (drop k old.forms))
   here = rw same put
 
   split : names (part_text old.neutral a b) (drop k old.forms) ≡ line ++ names (part_text old.neutral a b) (drop (k + 1) old.forms)
   split =
-      rw (text-kept old now _ _ here a b part, forms-kept old now _ _ here, at.0)
-      (names-more (part_text old.neutral a b) old.forms k (omega (arith, at.1, ap length (forms-kept old was _ _ put))))
+      rw (text-kept old _ now _ here a b part, forms-kept old _ now _ here, at.0)
+      (names-more (part_text old.neutral a b) old.forms k (omega (arith, at.1, ap length (forms-kept old _ was _ put))))
 
-  next : (new : Contents) → new ≡ with_text now line → IsSound new → HasPut old new (names (part_text old.neutral a b) old.forms) (names (part_text old.neutral a b) (drop (k + 1) old.forms))
-  next new is sound = put-more old now new _ _ _ _ here split is sound
+  next : (new : Contents) → new ≡ with_text now line → IsSound new → HasPut old (names (part_text old.neutral a b) old.forms) new (names (part_text old.neutral a b) (drop (k + 1) old.forms))
+  next new is sound = put-more old _ now new _ _ _ here split is sound
 
   too_long : now.room < used now + length line → old.room < used old + length (names (part_text old.neutral a b) old.forms)
-  too_long full = put-full old now _ _ _ _ here split full
+  too_long full = put-full old _ now _ _ _ here split full
 
 pub put_name-requires-clause-part : goal.put_name-requires-clause-part
 put_name-requires-clause-part c =
-    rw c.form.ensures.same (part-kept c.args.work.now c.loop-k.work _ _ c.loop-k.invariant c.next-before.result.from c.next-before.result.to c.next-before.ensures.part)
+    rw c.form.ensures.same (part-kept c.args.work.now _ c.loop-k.work _ c.loop-k.invariant c.next-before.result.from c.next-before.result.to c.next-before.ensures.part)
 
 pub loop-k-init : goal.loop-k-init
-loop-k-init c = put-none c.args.work.now c.args.work.now _ _ c.requires.sound refl refl
+loop-k-init c = put-none c.args.work.now _ c.args.work.now _ c.requires.sound refl refl
 
 pub loop-k-preserved : goal.loop-k-preserved
 loop-k-preserved c =
@@ -62,6 +62,6 @@ returns-clause-makes c = λ name.
     let past = c.loop-k-test.false in
     let all = c.forms-k-end.ensures.value in
     let none : names before (drop c.loop-k.k old.forms) ≡ [] = names-none before old.forms c.loop-k.k (omega (arith, past, all)) in
-    let put : HasPut old now whole [] = rw none at c.loop-k.invariant in
+    let put : HasPut old whole now [] = rw none at c.loop-k.invariant in
     let means = λ (meta : ℕ) (input : Input). ap (λ text. valued (names text old.forms) (world old.forms meta input)) (sym c.next-before.ensures.text) in
     (whole, put-all ListNames (name ∷ ts) old now whole put (valued-of ListNames (name ∷ ts) old.forms old.forms whole false means (λ _. refl)))

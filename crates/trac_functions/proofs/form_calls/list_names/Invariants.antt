@@ -7,4 +7,4 @@ use Rattle.trac_functions.proofs.form_calls.list_names.Given as goal
 abbrev pub invariant-loop-k : goal.invariant-loop-k
 invariant-loop-k l =
     let before = part_text l.fn.work.neutral l.before.from l.before.to in
-    HasPut l.fn.work l.work (names before l.fn.work.forms) (names before (drop l.k l.fn.work.forms))
+    HasPut l.fn.work (names before l.fn.work.forms) l.work (names before (drop l.k l.fn.work.forms))

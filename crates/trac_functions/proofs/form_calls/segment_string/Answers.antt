@@ -20,7 +20,7 @@ module _ (old new : Contents) (k : ℕ) (form : Form) (within : k < length old.f
 
 pub returns-in_default-clause-makes : goal.returns-in_default-clause-makes
 unfolding meaning_of
-returns-in_default-clause-makes c = idle SegmentString c.args.work.now c.next_form.new.work c.args.arguments _ c.requires (λ _ _ none. rw none refl) (λ _ _. refl) c.next_form.ensures.same c.in_default.ensures.found refl
+returns-in_default-clause-makes c = idle SegmentString (λ _ _ _ none. rw none refl) (λ _ _ _. refl) c.args.work.now c.next_form.new.work c.args.arguments _ c.requires c.next_form.ensures.same c.in_default.ensures.found refl
 
 pub loop-arguments-init : goal.loop-arguments-init
 loop-arguments-init c =

@@ -35,7 +35,7 @@ loop-i-preserved c =
     let one : c.args.count - c.loop-i.i ≡ suc (c.args.count - (c.loop-i.i + 1)) = omega (arith, c.loop-i-test.true) in
     let few : form_cells (form_in c.loop-i.rest.now) ≤ c.loop-i.left = omega (arith, c.if-left-cells.false, c.cells_of-cells.ensures) in
     let left : c.loop-i.left - c.cells_of-cells.result ≡ c.loop-i.left - form_cells (form_in c.loop-i.rest.now) = ap (λ n. c.loop-i.left - n) c.cells_of-cells.ensures in
-    let next = fit-next _ _ c.loop-i.left _ c.loop-i.rest.now _ one c.behind_form-rest.ensures (c.is_fit.ensures.0 c.if-not-is_fit.false) few left in
+    let next = fit-next _ _ c.loop-i.rest.now _ one c.behind_form-rest.ensures c.loop-i.left _ (c.is_fit.ensures.0 c.if-not-is_fit.false) few left in
     record {
       passed = λ all. c.loop-i.invariant.passed (next.passed all);
       whole = λ all. next.whole (c.loop-i.invariant.whole all);

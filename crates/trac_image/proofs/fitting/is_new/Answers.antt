@@ -27,7 +27,7 @@ loop-i-preserved c =
     let same = slice_eq-Decides Decides-eqb c.name_of.result.now c.args.name.now c.eq.result c.eq.ensures in
     let one : c.args.count - c.loop-i.i ≡ suc (c.args.count - (c.loop-i.i + 1)) = omega (arith, c.loop-i-test.true) in
     let other : name_in c.loop-i.rest.now ≢ c.args.name.now = λ is. (let found = same.1 (c.name_of.ensures ∙ is) in absurd (cc (found, c.if-eq.false))) in
-    let next = new-next c.args.name.now _ _ c.loop-i.rest.now _ one c.behind_form-rest.ensures other in
+    let next = new-next _ _ c.loop-i.rest.now _ one c.behind_form-rest.ensures c.args.name.now other in
     record {
       passed = λ none. c.loop-i.invariant.passed (next.passed none);
       whole = λ none. next.whole (c.loop-i.invariant.whole none);

@@ -5,7 +5,7 @@ use Rattle.trac_language.specs.State.{size}
 use Rattle.trac_language.specs.Store.{cells}
 use Rattle.trac_core.specs.Changing.{given, with_form, with_forms}
 use Rattle.trac_core.specs.Machine.{MachineState}
-use Rattle.trac_image.specs.Fitting.{AreFit}
+use Rattle.trac_image.specs.Fitting.{AreDistinct, AreFit}
 use Rattle.trac_image.specs.Items.{items_of}
 use Rattle.trac_image.specs.Reading.{behind_form, form_in, forms_in, heads_in}
 use Rattle.trac_image.specs.declared.reading.Heads.{Heads}
@@ -79,12 +79,12 @@ loop-i-preserved c =
     ap (λ n. m.memory.forms ++ forms_in n t) (sym one) ∙ c.loop-i.invariant.all in
     let is : after ≡ with_forms (with_form (form_in t) m.memory.forms) m =
     c.in_ok-define_items.ensures.ok ∙ ap (λ (f : Form). with_forms (with_form f m.memory.forms) m) form in
-    let next = defined-next m c.args.machine.now after (form_in t) (forms_in k (behind_form t)) _ c.loop-i.invariant.same whole c.requires.distinct is in
+    let next = defined-next m c.args.machine.now after (form_in t) (forms_in k (behind_form t)) c.loop-i.invariant.same (subst AreDistinct (sym whole) c.requires.distinct) is in
     let behind = c.behind_form-rest.ensures in
     record {
-      all = ap (λ s. after.memory.forms ++ forms_in k s) behind ∙ next.forms;
+      all = ap (λ s. after.memory.forms ++ forms_in k s) behind ∙ next.forms ∙ whole;
       same = next.same;
-      fit = (fit-next _ k (m.room - size m.memory) _ t _ one behind here.0 here.1 next.room).whole c.loop-i.invariant.fit;
+      fit = (fit-next _ k t _ one behind (m.room - size m.memory) _ here.0 here.1 next.room).whole c.loop-i.invariant.fit;
     }
 
 pub returns : goal.returns

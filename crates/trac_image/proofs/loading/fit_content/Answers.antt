@@ -6,7 +6,7 @@ use Rattle.trac_image.proofs.loading.fit_content.Goals as goal
 pub returns-then-not-is_empty : goal.returns-then-not-is_empty
 returns-then-not-is_empty c =
     λ meta count forms fit. (
-    let here = one-content c.args.room c.args.image.now meta count _ _ forms _ fit c.in_ok-content.ensures in
+    let here = one-content c.args.room c.args.image.now meta count forms fit _ _ _ c.in_ok-content.ensures in
     let none = c.in_ok-rest.ensures.1 ∙ here.last in
     let empty = eq-eqb (length c.in_ok-rest.rest.now) 0 (ap length none) in
     absurd (cc (empty, c.is_empty.ensures, c.if-not-is_empty.true))
@@ -15,7 +15,7 @@ returns-then-not-is_empty c =
 pub returns-then-not-are_distinct : goal.returns-then-not-are_distinct
 returns-then-not-are_distinct c =
     λ meta count forms fit. (
-    let here = one-content c.args.room c.args.image.now meta count _ _ forms _ fit c.in_ok-content.ensures in
+    let here = one-content c.args.room c.args.image.now meta count forms fit _ _ _ c.in_ok-content.ensures in
     let distinct = c.are_distinct.ensures.1 here.distinct in
     absurd (cc (distinct, c.if-not-are_distinct.true))
     )

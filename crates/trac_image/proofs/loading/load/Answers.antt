@@ -63,7 +63,7 @@ returns c =
     let is : after ≡ with_image (forms_in count t) meta m = c.define_forms.ensures.defined ∙ ap (with_forms (forms_in count t)) set in
     let image = c.args.image.now in
     let bytes = framed-bytes image meta count t (all-bytes image (λ i. omega (arith, c.type_inv.image i))) c.in-Some.ensures.content.image in
-    let loads = image-loads m after c.room_for_forms-room.result c.args.image.now meta count t c.room_for_forms-room.ensures.room bytes c.in-Some.ensures is in
+    let loads = image-loads c.room_for_forms-room.result c.args.image.now meta count t c.in-Some.ensures m after c.room_for_forms-room.ensures.room bytes is in
     let found = subst (λ (n : MachineState). Loads m c.args.image.now n) is loads in
     record {
       taken = (λ yes. (forms_in count t, (meta, found.image)), λ loadable. c.define_forms.ensures.ok);

@@ -1,13 +1,14 @@
-use Rattle.std.proofs.Common.{◌≡◌, ◌∙◌, ap, arith, length, max, refl, subst, Some, None}
+use Rattle.std.proofs.Common.{◌≡◌, ◌∙◌, ap, arith, length, max, refl, subst, sym, Some, None}
 use Rattle.std.proofs.lemmas.List.{length-replicate}
 use Rattle.std.specs.Io.KnownBytes.{Appends}
-use Rattle.trac_core.specs.Machine.{MachineState, fresh_machine}
+use Rattle.trac_core.specs.Machine.{Answers, MachineState, fresh_machine, moment}
 use Rattle.trac_events.specs.Calls.{depth_in}
-use Rattle.trac_views.specs.Lines.{folded_text, head_text}
+use Rattle.trac_views.specs.Faults.{AddsEnd}
+use Rattle.trac_views.specs.Lines.{folded_text}
 use Rattle.trac_tracer.specs.Last.{with_step}
-use Rattle.trac_tracer.specs.ShownCalls.{AddsCall}
+use Rattle.trac_tracer.specs.ShownCalls.{AddsCall, kept_in}
 use Rattle.trac_events.proofs.Failures.{last-failures}
-use Rattle.trac_tracer.proofs.StepByStep.{are-lines, shown-first, shown-on, shown-over}
+use Rattle.trac_tracer.proofs.StepByStep.{IsShown, TraceAt, TracesStep, shown-none, shown-more, shown-last}
 use Rattle.trac_tracer.proofs.tracing.trace.Goals as goal
 
 pub loop-last-init : goal.loop-last-init
@@ -27,8 +28,8 @@ loop-last-init g c =
       views = shown.0;
       told = λ told. told;
       shows = λ told.
-          shown-first c.args.options.now.views asked.cells asked.steps (g.I.Source.stream c.args.source.now) _ _ c.in_ok-shown.shown.peak c.over-machine.result c.in_ok-shown.shown.depth c.new-last.result c.lines.result.now
-          machine_is shown.1 shown.2 c.new-last.ensures (c.lines.ensures ∙ shown.3) c.in_ok-write_folded.ensures;
+          subst (IsShown asked.views asked.cells asked.steps (g.I.Source.stream c.args.source.now) _ _) (λ i. record { machine = sym machine_is i; top = sym shown.1 i; depth = sym shown.2 i; source = g.I.Source.stream c.args.source.now; last = sym c.new-last.ensures i })
+          (shown-none asked.views asked.cells asked.steps (g.I.Source.stream c.args.source.now) _ _ (subst (λ t. Appends (g.W.Write.contents c.args.output.now) (g.W.Write.contents c.write_folded.new.output) (folded_text asked.views.columns 0 t)) (c.lines.ensures ∙ shown.3) c.in_ok-write_folded.ensures));
     }
 
 pub returns-in-Some : goal.returns-in-Some
@@ -43,21 +44,42 @@ returns-in-Some g c =
     record {
       input_failed = omega (arith, h.input_failed, failures, i.source_failures);
       shows = λ told.
-          let stream = g.I.Source.stream c.loop-last.source in
-          let printed = c.step-fate.new.sink.bytes.items in
-          let lines = c.add_lines.new.self.lines.items in
           let after = c.take_peak-need.new.self in
-          let line_of = are-lines views c.loop-last.shown.views c.look.new.self.views m after c.in_ok-before.before c.loop-last.shown.depth c.add_lines.new.self.depth (Some c.in-Some.fate) c.take_peak-need.result c.look.new.self.arguments.items c.look.new.self.named c.look.new.self.deleted.items c.as_bytes.result.now printed c.look.new.self.lines.items lines
-          i.views looked c.as_bytes.ensures c.in_ok-before.ensures.cleared c.in_ok-before.ensures.seen
-          (c.in_ok-add_lines.ensures.depth ∙ ap (depth_in c.in_ok-before.before after) c.in_ok-before.ensures.depth) c.in_ok-add_lines.ensures.hidden c.in_ok-add_lines.ensures.steps c.in_ok-before.ensures.kept (λ told others. subst (λ a. AddsCall c.look.new.self.views c.in_ok-before.before a c.add_lines.new.self.depth c.look.new.self.arguments.items c.look.new.self.named c.look.new.self.deleted.items c.as_bytes.result.now after c.look.new.self.lines.items lines) c.in-Some.is (c.in_ok-add_lines.ensures.calls told others)) in
-          shown-over views c.add_lines.new.self.views asked.cells asked.steps (g.I.Source.stream c.args.source.now) _ _ _ c.loop-last.shown.peak c.add_lines.new.self.peak c.take_peak-need.result c.steps.result c.first-first.result c.in-Some.fate
-          m c.step-fate.new.self after c.loop-last.shown.depth c.add_lines.new.self.depth stream (g.I.Source.stream c.step-fate.new.source) c.loop-last.last c.add.new.self c.loop-last.printed.bytes.items printed lines c.add_end.new.self.lines.items
-          i.room i.allowance i.no_peak i.empty (h.answers i.not_over (i.told told) tt) (i.shows told) line_of
-          c.take_peak-need.ensures.peak c.take_peak-need.ensures.after
-          (c.in_ok-add_lines.ensures.peak ∙ ap (λ p. max p c.take_peak-need.result) c.in_ok-before.ensures.peak)
-          c.steps.ensures
-          (c.in_ok-add.ensures.ok ∙ ap (λ l. with_step c.steps.result l c.loop-last.last) c.lines-in-loop-last.ensures)
-          (c.in_ok-add_lines.ensures.views ∙ looked) c.in_ok-add_end.ensures c.first-first.ensures
+          let printed = c.as_bytes.result.now in
+          let lines = c.add_lines.new.self.lines.items in
+          let from : TraceAt = record { machine = m; top = c.loop-last.shown.peak; depth = c.loop-last.shown.depth; source = g.I.Source.stream c.loop-last.source; last = c.loop-last.last } in
+          let to : TraceAt = record { machine = after; top = c.add_lines.new.self.peak; depth = c.add_lines.new.self.depth; source = g.I.Source.stream c.step-fate.new.source; last = c.add.new.self } in
+          let step : TracesStep views from (Some c.in-Some.fate) to lines = record {
+            held = c.loop-last.printed.bytes.items;
+            printed = printed;
+            needed = c.take_peak-need.result;
+            next = c.step-fate.new.self;
+            no_peak = i.no_peak;
+            empty = i.empty;
+            answers = subst (λ out. Answers (moment m from.source c.loop-last.printed.bytes.items) (Some c.in-Some.fate) (moment c.step-fate.new.self to.source out)) (sym c.as_bytes.ensures) (h.answers i.not_over (i.told told) tt);
+            needed_is = c.take_peak-need.ensures.peak;
+            machine_is = c.take_peak-need.ensures.after;
+            top_is = c.in_ok-add_lines.ensures.peak ∙ ap (λ p. max p c.take_peak-need.result) c.in_ok-before.ensures.peak;
+            last_is = c.in_ok-add.ensures.ok ∙ (λ i. with_step (c.steps.ensures i) (c.lines-in-loop-last.ensures i) c.loop-last.last);
+            told = record {
+              looked = c.loop-last.shown.views;
+              looked_is = i.views;
+              told = c.look.new.self.views;
+              told_is = looked;
+              old = c.look.new.self.lines.items;
+              none = c.in_ok-before.ensures.cleared;
+              before = c.in_ok-before.before;
+              kept = kept_in c.look.new.self;
+              seen = c.in_ok-before.ensures.seen;
+              depth_is = c.in_ok-add_lines.ensures.depth ∙ ap (depth_in c.in_ok-before.before after) c.in_ok-before.ensures.depth;
+              hidden = c.in_ok-add_lines.ensures.hidden;
+              steps = c.in_ok-add_lines.ensures.steps;
+              keeps = c.in_ok-before.ensures.kept;
+              calls = λ told others. subst (λ a. AddsCall c.look.new.self.views c.in_ok-before.before a (kept_in c.look.new.self) (record { depth = to.depth; printed = printed; machine = after }) c.look.new.self.lines.items lines) c.in-Some.is (c.in_ok-add_lines.ensures.calls told others);
+            };
+          } in
+          let ends = subst (λ v. AddsEnd v c.in-Some.fate to.top after lines c.add_end.new.self.lines.items) (c.in_ok-add_lines.ensures.views ∙ looked) c.in_ok-add_end.ensures in
+          shown-last views asked.cells asked.steps (g.I.Source.stream c.args.source.now) _ _ _ from to lines (i.shows told) c.in-Some.fate step i.room i.allowance c.add_end.new.self.lines.items c.first-first.result ends c.first-first.ensures
           (subst (λ t. Appends (g.W.Write.contents c.loop-last.output) (g.W.Write.contents c.write_folded-in-Some.new.output) (folded_text views.columns 0 t)) c.lines-in-Some.ensures c.in_ok-write_folded-2.ensures);
     }
 
@@ -84,19 +106,40 @@ loop-last-preserved g c =
       views = c.in_ok-add_lines.ensures.views ∙ looked;
       told = λ told. h.told_source (i.told told);
       shows = λ told.
-          let stream = g.I.Source.stream c.loop-last.source in
-          let printed = c.step-fate.new.sink.bytes.items in
+          let printed = c.as_bytes.result.now in
           let lines = c.add_lines.new.self.lines.items in
+          let from : TraceAt = record { machine = m; top = c.loop-last.shown.peak; depth = c.loop-last.shown.depth; source = g.I.Source.stream c.loop-last.source; last = c.loop-last.last } in
+          let to : TraceAt = record { machine = after; top = c.add_lines.new.self.peak; depth = c.add_lines.new.self.depth; source = g.I.Source.stream c.step-fate.new.source; last = c.add.new.self } in
+          let step : TracesStep views from None to lines = record {
+            held = c.loop-last.printed.bytes.items;
+            printed = printed;
+            needed = c.take_peak-need.result;
+            next = c.step-fate.new.self;
+            no_peak = i.no_peak;
+            empty = i.empty;
+            answers = subst (λ out. Answers (moment m from.source c.loop-last.printed.bytes.items) None (moment c.step-fate.new.self to.source out)) (sym c.as_bytes.ensures) (h.answers i.not_over (i.told told) tt);
+            needed_is = c.take_peak-need.ensures.peak;
+            machine_is = c.take_peak-need.ensures.after;
+            top_is = c.in_ok-add_lines.ensures.peak ∙ ap (λ p. max p c.take_peak-need.result) c.in_ok-before.ensures.peak;
+            last_is = c.in_ok-add.ensures.ok ∙ (λ i. with_step (c.steps.ensures i) (c.lines-in-loop-last.ensures i) c.loop-last.last);
+            told = record {
+              looked = c.loop-last.shown.views;
+              looked_is = i.views;
+              told = c.look.new.self.views;
+              told_is = looked;
+              old = c.look.new.self.lines.items;
+              none = c.in_ok-before.ensures.cleared;
+              before = c.in_ok-before.before;
+              kept = kept_in c.look.new.self;
+              seen = c.in_ok-before.ensures.seen;
+              depth_is = c.in_ok-add_lines.ensures.depth ∙ ap (depth_in c.in_ok-before.before after) c.in_ok-before.ensures.depth;
+              hidden = c.in_ok-add_lines.ensures.hidden;
+              steps = c.in_ok-add_lines.ensures.steps;
+              keeps = c.in_ok-before.ensures.kept;
+              calls = λ told others. subst (λ a. AddsCall c.look.new.self.views c.in_ok-before.before a (kept_in c.look.new.self) (record { depth = to.depth; printed = printed; machine = after }) c.look.new.self.lines.items lines) c.in_default.is (c.in_ok-add_lines.ensures.calls told others);
+            };
+          } in
           let took = h.takes (i.told told) in
-          let line_of = are-lines views c.loop-last.shown.views c.look.new.self.views m after c.in_ok-before.before c.loop-last.shown.depth c.add_lines.new.self.depth None c.take_peak-need.result c.look.new.self.arguments.items c.look.new.self.named c.look.new.self.deleted.items c.as_bytes.result.now printed c.look.new.self.lines.items lines
-          i.views looked c.as_bytes.ensures c.in_ok-before.ensures.cleared c.in_ok-before.ensures.seen
-          (c.in_ok-add_lines.ensures.depth ∙ ap (depth_in c.in_ok-before.before after) c.in_ok-before.ensures.depth) c.in_ok-add_lines.ensures.hidden c.in_ok-add_lines.ensures.steps c.in_ok-before.ensures.kept (λ told others. subst (λ a. AddsCall c.look.new.self.views c.in_ok-before.before a c.add_lines.new.self.depth c.look.new.self.arguments.items c.look.new.self.named c.look.new.self.deleted.items c.as_bytes.result.now after c.look.new.self.lines.items lines) c.in_default.is (c.in_ok-add_lines.ensures.calls told others)) in
-          shown-on views (fresh_machine asked.cells asked.steps) (g.I.Source.stream c.args.source.now) (folded_text views.columns 0 (head_text views.calls views.forms)) _ _ _ c.loop-last.shown.peak c.add_lines.new.self.peak c.take_peak-need.result c.steps.result
-          m c.step-fate.new.self after c.loop-last.shown.depth c.add_lines.new.self.depth stream (g.I.Source.stream c.step-fate.new.source) c.loop-last.last c.add.new.self c.loop-last.printed.bytes.items printed lines took.0
-          i.room i.no_peak i.empty took.1.consumed (h.answers i.not_over (i.told told) tt) (i.shows told) line_of
-          c.take_peak-need.ensures.peak after_is
-          (c.in_ok-add_lines.ensures.peak ∙ ap (λ p. max p c.take_peak-need.result) c.in_ok-before.ensures.peak)
-          c.steps.ensures
-          (c.in_ok-add.ensures.ok ∙ ap (λ l. with_step c.steps.result l c.loop-last.last) c.lines-in-loop-last.ensures)
+          shown-more views asked.cells asked.steps (g.I.Source.stream c.args.source.now) _ _ _ from to lines (i.shows told) step i.room took.0 took.1.consumed
           (subst (λ t. Appends (g.W.Write.contents c.loop-last.output) (g.W.Write.contents c.write_folded-in-loop-last.new.output) (folded_text views.columns 0 t)) c.lines-in-loop-last-2.ensures c.in_ok-write_folded-3.ensures);
     }

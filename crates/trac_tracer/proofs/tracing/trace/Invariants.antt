@@ -1,7 +1,5 @@
 use Rattle.std.proofs.Common.{◌≡◌, ◌-◌, [], None}
-use Rattle.trac_views.specs.Lines.{folded_text, head_text}
 use Rattle.trac_tracer.proofs.StepByStep.{IsShown}
-use Rattle.trac_core.specs.Machine.{fresh_machine}
 use Rattle.trac_tracer.proofs.tracing.trace.Given as goal
 
 -- the run is not over, no device has failed, and the steps so far were shown
@@ -19,10 +17,8 @@ invariant-loop-last g l =
       told : g.I.Source.tells l.initial.source → g.I.Source.tells l.source;
       shows :
           g.I.Source.tells l.initial.source →
-          IsShown l.options.views (fresh_machine l.options.cells l.options.steps) (g.I.Source.stream l.initial.source)
-          (folded_text l.options.views.columns 0 (head_text l.options.views.calls l.options.views.forms))
-          (g.W.Write.contents l.fn.output) (g.W.Write.contents l.output)
-          l.shown.peak l.machine l.shown.depth (g.I.Source.stream l.source) l.last;
+          IsShown l.options.views l.options.cells l.options.steps (g.I.Source.stream l.initial.source) (g.W.Write.contents l.fn.output) (g.W.Write.contents l.output)
+          (record { machine = l.machine; top = l.shown.peak; depth = l.shown.depth; source = g.I.Source.stream l.source; last = l.last });
     }
 
 -- the steps that are left

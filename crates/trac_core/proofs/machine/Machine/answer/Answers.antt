@@ -1,5 +1,5 @@
 use Rattle.std.specs.Prelude.{is_none}
-use Rattle.trac_core.proofs.Imports.{refl, sym, ap, ◌∙◌, arith, true≢false, memory_of, moment, MachineState}
+use Rattle.trac_core.proofs.Imports.{refl, sym, ap, ◌∙◌, arith, true≢false, memory_of, scene, moment, MachineState}
 use Rattle.trac_functions.proofs.FlatLemmas.{size-used}
 use Rattle.trac_core.proofs.Answering.{unknown-innermost, none-known, tells-answered, null-answers}
 use Rattle.trac_core.proofs.machine.Machine.answer.Goals as goal
@@ -48,7 +48,8 @@ returns-clause-answered c =
         going = none-known i.fate (sym c.is_some.ensures ∙ c.if-is_some.false);
         unknown = unknown-innermost i.work c.in-Some.place i.meta closed.0 closed.1.0 ∙ ap is_none closed.1.1;
       },
-      λ source written. tells-answered c.args.how c.args.value.now m i.work c.end_answered-outcome.new.work c.in-Some.place i.meta c.end_answered-outcome.result.need c.end_answered-outcome.result.fate source written refl refl (omega (arith, c.self.invariant.0, c.if-self.false)) c.in-Some.ensures.sound closed.0 closed.1.0 c.end_answered-outcome.ensures.fits c.end_answered-outcome.ensures.ended,
+      λ source written. tells-answered c.args.how c.args.value.now c.in-Some.place c.end_answered-outcome.result.need c.end_answered-outcome.result.fate (scene i.work i.meta source written) c.end_answered-outcome.new.work
+          (record { sound = c.in-Some.ensures.sound; first = closed.0; last = closed.1.0; fits = c.end_answered-outcome.ensures.fits; ended = c.end_answered-outcome.ensures.ended }) m refl refl (omega (arith, c.self.invariant.0, c.if-self.false)),
     )
 
 pub returns-clause-null : goal.returns-clause-null

@@ -19,7 +19,7 @@ returns g c =
     let after = c.self-2.view_is in
     let none : c.args.self.now.fate ≡ None = sym (ap (λ (m : MachineState). m.fate) view) ∙ c.in_default.is in
     let most_is : c.args.self.now.steps + (c.self.inside.allowance - c.self.inside.steps) ≡ c.args.self.now.allowance = rw (← view) (omega (arith, c.self.invariant.0)) in
-    let ends = run-ends g.I.Source.tells g.I.Source.stream g.I.Source.failure_count g.O.Sink.tells g.O.Sink.flushed g.O.Sink.written g.O.Sink.lent g.O.Sink.failure_count start h.driven.0 last c.drive.new.self.fate _ c.drive.result.done most_is h.counts h.driven.1.0 h.driven.1.1 in
+    let ends = run-ends g.I.Source.tells g.I.Source.stream g.I.Source.failure_count g.O.Sink.tells g.O.Sink.flushed g.O.Sink.written g.O.Sink.lent g.O.Sink.failure_count start last _ c.drive.result.done most_is h.counts h.driven in
     let report_is : c.report_with-2.result ≡ report_of (unwrap_or c.drive.new.self.fate Steps) c.drive.new.self =
     c.report_with-2.ensures ∙ (λ i. report_of ((c.unwrap_or-fate.ensures ∙ ap (λ (m : MachineState). unwrap_or m.fate Steps) after) i) (after i)) in
     let fate_is = ap (λ (report : Report). report.fate) report_is in

@@ -22,7 +22,7 @@ returns-in_default-clause-answers g c = λ not_over told_source told_sink.
     let m : MachineState = record { memory = memory_of i.meta i.work; room = i.work.room; allowance = i.allowance; steps = i.steps; peak = i.peak; fate = i.fate; stops = i.stops } in
     let allowed : i.steps < i.allowance = omega (arith, c.self.invariant.0, c.if-self.false) in
     rw (← c.self.view_is, c.count-in_default.ensures.answer, c.count-in_default.ensures.after, c.scan_once.ensures.keeps.room)
-    (tried-passed i.work c.scan_once.new.work 1 c.used-need.result c.in_default.ensures.comes refl c.self.invariant.2 c.used-need.ensures.value i.meta _ _ m refl refl allowed)
+    (tried-passed i.work c.scan_once.new.work c.used-need.result c.in_default.ensures.comes c.self.invariant.2 c.used-need.ensures.value i.meta _ _ m refl refl allowed)
 
 pub returns-in_default-clause-takes : goal.returns-in_default-clause-takes
 returns-in_default-clause-takes g c = λ told.

@@ -1,5 +1,5 @@
-use Rattle.trac_core.proofs.Imports.{◌≡◌, ◌≤◌, ◌+◌, ◌-◌, ◌⊎◌, Bool, IsSound, used, HasNoCommaFrom, turning, standing, GoesBy}
-use Rattle.trac_core.proofs.Advancing.{counters_after}
+use Rattle.trac_core.proofs.Imports.{◌≡◌, ◌≤◌, ◌+◌, ◌-◌, ◌⊎◌, Bool, IsSound, used, HasNoCommaFrom, turning, stage, standing}
+use Rattle.trac_core.proofs.Advancing.{IsDriven, so_far}
 use Rattle.trac_core.proofs.machine.advancing.go_on.Given as goal
 
 -- the steps that are done were performed, and the need is that of the next step or is counted
@@ -16,9 +16,8 @@ invariant-loop-left g l =
       need : (l.need ≡ used l.work) ⊎ ((used l.work ≤ l.peak) × (l.need ≤ l.peak));
       ready : g.P.Performer.ready l.source l.sink;
       goes : (stops : Bool) →
-          GoesBy (g.P.Performer.performed l.performer) (l.reach - l.left)
-          (standing (turning stops l.fn.work l.fn.meta l.at) l.fn.source l.fn.sink)
-          (standing (turning stops l.work l.meta (counters_after l.at (l.reach - l.left) l.peak)) l.source l.sink);
+          IsDriven (g.P.Performer.performed l.performer) (standing (turning stops l.fn.work l.fn.meta l.at) l.fn.source l.fn.sink) stops l.at
+          (so_far (stage l.work l.meta l.source l.sink) (l.reach - l.left) l.peak);
     }
 
 -- the steps that are left

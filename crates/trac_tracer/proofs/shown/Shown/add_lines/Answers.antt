@@ -6,13 +6,12 @@ use Rattle.trac_space.specs.declared.cell.Cell.{Cell}
 use Rattle.trac_core.specs.Machine.{MachineState}
 use Rattle.trac_events.specs.Calls.{SeesValue}
 use Rattle.trac_events.specs.declared.before.Before.{Before}
-use Rattle.trac_events.specs.declared.call.Named.{Named}
 use Rattle.trac_views.specs.Lines.{dropped_text, output_text}
 use Rattle.trac_views.specs.CallLines.{has_steps, has_strings}
 use Rattle.trac_views.specs.declared.views.Views.{Views}
 use Rattle.trac_views.proofs.Texts.{on_ok}
 use Rattle.trac_tracer.specs.declared.shown.Shown.{Shown}
-use Rattle.trac_tracer.specs.ShownCalls.{IsValueAfter, seen_text, step_lines}
+use Rattle.trac_tracer.specs.ShownCalls.{CallKept, IsValueAfter, StepEnd, kept_in, seen_text, step_lines}
 use Rattle.trac_tracer.proofs.shown.Shown.add_lines.Goals as goal
 use Rattle.trac_tracer.proofs.shown.Shown.add_lines.Goals.{in-None, in-Some, then-steps-before+in_ok-add_step+in_ok-add_call, else-steps-before}
 
@@ -28,19 +27,17 @@ value-some before m fate over value some null = subst (λ f. IsValueAfter f befo
 no-print : (views after : Views) (printed : List ℕ) → after ≡ views → has_steps views ≡ false → (if has_steps after then output_text printed else []) ≡ []
 no-print views after printed same none = ap (λ b. if b then output_text printed else []) (ap has_steps same ∙ none)
 
--- the line of what was dropped, and then that of the call
-done-lines : (views looked : Views) (before : Before) (depth now : ℕ) (arguments kept : List Cell) (named known : Named) (deleted gone printed : List ℕ) (value : List Cell) (m : MachineState) (old first second new : List ℕ) → looked ≡ views → now ≡ depth → kept ≡ arguments → known ≡ named → gone ≡ deleted → nat_lt before.done m.steps ≡ true → first ≡ old ++ (if has_strings views then dropped_text before.drops else []) → second ≡ first ++ seen_text looked before.call now kept known gone value printed m → new ≡ second ++ [] → new ≡ old ++ step_lines (nat_lt before.done m.steps) views before depth arguments named deleted value printed m
-done-lines views looked before depth now arguments kept named known deleted gone printed value m old first second new v d a n x done one two three =
-    let dropped = if has_strings views then dropped_text before.drops else [] in
-    let seen : seen_text looked before.call now kept known gone value printed m ≡ seen_text views before.call depth arguments named deleted value printed m = λ i. seen_text (v i) before.call (d i) (a i) (n i) (x i) value printed m in
-    three ∙ append-nil second ∙ two ∙ ap (λ t. first ++ t) seen ∙ ap (λ t. t ++ seen_text views before.call depth arguments named deleted value printed m) one
-    ∙ append_assoc old dropped (seen_text views before.call depth arguments named deleted value printed m)
-    ∙ ap (λ b. old ++ step_lines b views before depth arguments named deleted value printed m) (sym done)
+module _ (views : Views) (before : Before) (kept : CallKept) (value : List Cell) (end : StepEnd) (old : List ℕ) where
+  -- the line of what was dropped, and then that of the call
+  done-lines : (first second new : List ℕ) → nat_lt before.done end.machine.steps ≡ true → first ≡ old ++ (if has_strings views then dropped_text before.drops else []) → second ≡ first ++ seen_text views before.call kept value end → new ≡ second ++ [] → new ≡ old ++ step_lines (nat_lt before.done end.machine.steps) views before kept value end
+  done-lines first second new done one two three =
+      let seen = seen_text views before.call kept value end in
+      three ∙ append-nil second ∙ two ∙ ap (λ t. t ++ seen) one ∙ append_assoc old (if has_strings views then dropped_text before.drops else []) seen
+      ∙ ap (λ b. old ++ step_lines b views before kept value end) (sym done)
 
--- a step that was not done has no lines
-undone-lines : (views : Views) (before : Before) (depth : ℕ) (arguments : List Cell) (named : Named) (deleted printed : List ℕ) (value : List Cell) (m : MachineState) (old second new : List ℕ) → nat_lt before.done m.steps ≡ false → second ≡ old → new ≡ second ++ [] → new ≡ old ++ step_lines (nat_lt before.done m.steps) views before depth arguments named deleted value printed m
-undone-lines views before depth arguments named deleted printed value m old second new done same last =
-    last ∙ ap (λ t. t ++ []) same ∙ ap (λ b. old ++ step_lines b views before depth arguments named deleted value printed m) (sym done)
+  -- a step that was not done has no lines
+  undone-lines : (second new : List ℕ) → nat_lt before.done end.machine.steps ≡ false → second ≡ old → new ≡ second ++ [] → new ≡ old ++ step_lines (nat_lt before.done end.machine.steps) views before kept value end
+  undone-lines second new done same last = last ∙ ap (λ t. t ++ []) same ∙ ap (λ b. old ++ step_lines b views before kept value end) (sym done)
 
 pub returns-clause-calls : goal.returns-clause-calls
 returns-clause-calls g c = λ told not_steps.
@@ -50,6 +47,7 @@ returns-clause-calls g c = λ told not_steps.
     let value = c.match-fate.value.now in
     let s = c.if-steps-before.self in
     let shown = c.show.new.self in
+    let end : StepEnd = record { depth = shown.depth; printed = c.args.printed.now; machine = m } in
     let is_value : IsValueAfter c.args.fate before m value =
     elim c.match-fate.branch [
       | in-None w ↦ value-none before m c.args.fate value w.value-value.result.now w.in-None.is (ap (λ v. v.now) w.value-is) w.value-value.ensures
@@ -70,13 +68,15 @@ returns-clause-calls g c = λ told not_steps.
               | then-steps-before+in_ok-add_step+in_ok-add_call w ↦
                   let step = w.add_step.new.self in
                   let on = w.add_step.ensures in
-                  done-lines self.views step.views before shown.depth step.depth self.arguments.items step.arguments.items self.named step.named self.deleted.items step.deleted.items c.args.printed.now value m self.lines.items step.lines.items w.add_call.new.self.lines.items shown.lines.items
-                  on.views (sym (c.show.ensures.depth ∙ ap (λ (s : Shown g.row.A.Denot). s.depth) w.self-is ∙ w.add_call.ensures.depth)) (ap (λ a. a.items) on.arguments) on.named (ap (λ a. a.items) on.deleted)
+                  let depth = sym (c.show.ensures.depth ∙ ap (λ (s : Shown g.row.A.Denot). s.depth) w.self-is ∙ w.add_call.ensures.depth) in
+                  done-lines self.views before (kept_in self) value end self.lines.items step.lines.items w.add_call.new.self.lines.items shown.lines.items
                   (lt-ltb before.done m.steps (omega (arith, w.if-steps-before.true, c.steps.ensures)))
-                  (w.in_ok-add_step.ensures.dropped not_steps) (w.in_ok-add_call.ensures.called (ap has_steps on.views ∙ not_steps))
+                  (w.in_ok-add_step.ensures.dropped not_steps)
+                  (w.in_ok-add_call.ensures.called (ap has_steps on.views ∙ not_steps)
+                  ∙ (λ i. step.lines.items ++ seen_text (on.views i) before.call (record { arguments = (on.arguments i).items; named = on.named i; deleted = (on.deleted i).items }) value (record end { depth = depth i })))
                   (new_is ∙ ap (λ (s : Shown g.row.A.Denot). s.lines.items ++ []) w.self-is)
               | else-steps-before w ↦
-                  undone-lines self.views before shown.depth self.arguments.items self.named self.deleted.items c.args.printed.now value m self.lines.items s.lines.items shown.lines.items
+                  undone-lines self.views before (kept_in self) value end self.lines.items s.lines.items shown.lines.items
                   (le-ltb before.done m.steps (omega (arith, w.if-steps-before.false, c.steps.ensures))) (ap (λ (s : Shown g.row.A.Denot). s.lines.items) w.self-is) new_is
             ],
       ),
