@@ -1,10 +1,9 @@
 -- Steps of a turn that need no device.
 use Rattle.std.specs.Prelude.{true, List, [], ◌∷◌}
-use Rattle.trac_c.proofs.Imports.{◌≡◌, ◌≢◌, ℕ, zero, suc, ◌+◌, ◌-◌, ◌<◌, ◌≤◌, Bool, false, not, Option, Some, None, refl, sym, ap, subst, arith, Text, Fate, MachineState, Moment, moment, awaited, next_function, is_none, nat_lt, ◌&&◌, if◌then◌else◌, is_short, waits_for_input, Goes, SomeTurned, Turn, Went, Over}
+use Rattle.trac_c.proofs.Imports.{◌≡◌, ◌≢◌, ℕ, zero, suc, ◌+◌, ◌-◌, ◌<◌, ◌≤◌, Bool, false, not, Option, Some, None, refl, sym, ap, subst, arith, Text, Fate, MachineState, Moment, awaited, next_function, is_none, nat_lt, ◌&&◌, if◌then◌else◌, is_short, waits_for_input, Goes, SomeTurned, Turn, Went, Over}
 use Rattle.std.proofs.lemmas.Bool.{and_right}
 use Rattle.trac_language.specs.declared.function.Function.{Function}
 use Rattle.trac_language.specs.declared.function.Function.TheVariants.{ReadString, ReadCharacter}
-use Rattle.trac_devices.specs.Devices.{Stream}
 use Rattle.trac_core.specs.declared.machine.session.Awaits.TheVariants.{Nothing}
 use Rattle.trac_language.specs.State.{OpenCall, arguments}
 use Rattle.trac_language.specs.Rule.{Rule, EndCall, rule}
@@ -14,7 +13,6 @@ use Rattle.trac_core.specs.Machine.{Answers}
 use Rattle.trac_core.specs.OpenCalls.{asks_host}
 use Rattle.trac_core.specs.Answering.{asks_next}
 use Rattle.trac_core.specs.Advancing.{GoesAlone, StopsAlone, Advanced}
-use Rattle.trac_c.specs.declared.turn.Turn.TheVariants.{Waits, Full, Asks}
 use Rattle.trac_c.specs.Turns.{TurnsTo, EndsTurn}
 
 -- a call that uses no device waits for nothing
@@ -42,73 +40,56 @@ waits-none ended m bytes alone =
 pub unasked : (m : MachineState) → asks_host m ≡ false → asks_next m ≡ false
 unasked m e = and_right (is_none m.fate && nat_lt m.steps m.allowance) (asks_host m) e
 
--- n steps that need no device follow k steps of a turn
-goes-alone : (n k : ℕ) (ended : Bool) (start : Moment) (old new : MachineState) (source : Stream) (written : Text) → GoesAlone n old new → Goes ended k start (moment old source written) → Goes ended (k + n) start (moment new source written)
-goes-alone zero k ended start old new source written same goes =
-    let none : k ≡ k + 0 = omega arith in
-    subst (λ j. Goes ended j start (moment new source written)) none (subst (λ m. Goes ended k start (moment m source written)) (sym same) goes)
-goes-alone (suc n) k ended start old new source written alone goes =
-    let middle = alone.0 in
-    let step = alone.1.1 in
-    let before = goes-alone n k ended start old middle source written alone.1.0 goes in
-    let one : suc (k + n) ≡ k + suc n = omega arith in
-    subst (λ j. Goes ended j start (moment new source written)) one
-    (moment middle source written, (before, (waits-none ended middle source.bytes step.alone, (step.goes source written, (step.going, (unasked middle step.unasked, step.settings))))))
-
--- n steps that need no device follow k steps of a turn, and the run goes on
-pub goes-on : (most n k : ℕ) (ended : Bool) (start : Moment) (old new : MachineState) (source : Stream) (written : Text) → new.fate ≡ None → Advanced most n old new → Goes ended k start (moment old source written) → Goes ended (k + n) start (moment new source written)
-goes-on most n k ended start old new source written going to goes =
-    let stops = subst (λ fate. StopsAlone most n to.0 fate new) going to.1.1 in
-    subst (λ m. Goes ended (k + n) start (moment m source written)) (sym stops.0) (goes-alone n k ended start old to.0 source written to.1.0 goes)
-
 ends-turn : (ended : Bool) (most done : ℕ) (before : Moment) (last : Turn) (new : Moment) → last ≢ Went → done < most → TurnsTo ended before last new → EndsTurn ended most done before last new
 ends-turn ended most done before Went new other few turns = absurd (other refl)
-ends-turn ended most done before Waits new other few turns = (few, turns)
-ends-turn ended most done before (Full printed) new other few turns = (few, turns)
-ends-turn ended most done before Asks new other few turns = (few, turns)
-ends-turn ended most done before (Over fate) new other few turns = (few, turns)
+ends-turn ended most done before _ new other few turns = (few, turns)
 
--- n steps that need no device follow k steps of a turn, which then ends: with what comes next, or since the run is over
-pub ends-on : (most n k : ℕ) (ended : Bool) (start new : Moment) (old middle : MachineState) (source : Stream) (written : Text) (last : Turn) → k + n < most → last ≢ Went → (middle.fate ≡ None → TurnsTo ended (moment middle source written) last new) → ((fate : Fate) → middle.fate ≡ Some fate → (last ≡ Over fate) × (new ≡ moment middle source written)) → (wanted : ℕ) → Advanced wanted n old middle → Goes ended k start (moment old source written) → SomeTurned ended most start last new
-ends-on most n k ended start new old middle source written last few other turns over wanted to goes = go middle.fate refl
-  where
-    go : (fate : Option Fate) → middle.fate ≡ fate → SomeTurned ended most start last new
-    go None going = (
-      k + n,
-      (
-        moment middle source written,
-        record {
-          goes = goes-on wanted n k ended start old middle source written going to goes;
-          ends = ends-turn ended most (k + n) (moment middle source written) last new other few (turns going);
-        },
-      ),
-    )
-    go (Some fate) is_over =
-        let stops = subst (λ fate. StopsAlone wanted n to.0 fate middle) is_over to.1.1 in
-        let at = over fate is_over in
-        let before = moment to.0 source written in
-        let answers : Answers before (Some fate) new = subst (λ new. Answers before (Some fate) new) (sym at.1) (stops.1.ends source written) in
-        let turned : TurnsTo ended before last new = subst (λ t. TurnsTo ended before t new) (sym at.0) (waits-none ended to.0 source.bytes stops.1.alone, ((λ e. stops.1.none_failed.0 (ap Some e), λ e. stops.1.none_failed.1 (ap Some e)), (answers, unasked to.0 stops.1.unasked))) in (
-          k + n,
-          (
-            before,
-            record {
-              goes = goes-alone n k ended start old to.0 source written to.1.0 goes;
-              ends = ends-turn ended most (k + n) before last new other few turned;
-            },
-          ),
-        )
+-- a turn from `start` on
+module _ (ended : Bool) (start : Moment) where
+  -- n steps that need no device follow k steps of a turn
+  goes-alone : (n k : ℕ) (old : Moment) (new : MachineState) → GoesAlone n old.machine new → Goes ended k start old → Goes ended (k + n) start (record old { machine = new })
+  goes-alone zero k old new same goes =
+      let none : k ≡ k + 0 = omega arith in
+      subst (λ j. Goes ended j start (record old { machine = new })) none (subst (λ m. Goes ended k start (record old { machine = m })) (sym same) goes)
+  goes-alone (suc n) k old new alone goes =
+      let middle = record old { machine = alone.0 } in
+      let step = alone.1.1 in
+      let one : suc (k + n) ≡ k + suc n = omega arith in
+      subst (λ j. Goes ended j start (record old { machine = new })) one
+      (middle, (goes-alone n k old alone.0 alone.1.0 goes, (waits-none ended alone.0 old.source.bytes step.alone, (step.goes old.source old.written, (step.going, (unasked alone.0 step.unasked, step.settings))))))
 
--- as many steps as a turn may make are done
-pub ends-full : (most n k : ℕ) (ended : Bool) (start : Moment) (old new : MachineState) (source : Stream) (written : Text) → k + n ≡ most → (wanted : ℕ) → wanted ≤ most - k → Advanced wanted n old new → Goes ended k start (moment old source written) → SomeTurned ended most start Went (moment new source written)
-ends-full most n k ended start old new source written all wanted few to goes = go new.fate refl
-  where
-    go : (fate : Option Fate) → new.fate ≡ fate → SomeTurned ended most start Went (moment new source written)
-    go None going =
-        (k + n, (moment new source written, record { goes = goes-on wanted n k ended start old new source written going to goes; ends = (all, refl) }))
-    go (Some fate) is_over =
-        let stops = subst (λ fate. StopsAlone wanted n to.0 fate new) is_over to.1.1 in
-        absurd (omega (arith, stops.0, few, all))
+  -- at most `wanted` steps that need no device, here n, follow k steps of a turn
+  module _ (wanted n k : ℕ) (old : Moment) (new : MachineState) (to : Advanced wanted n old.machine new) (goes : Goes ended k start old) where
+    -- the run goes on
+    pub goes-on : new.fate ≡ None → Goes ended (k + n) start (record old { machine = new })
+    goes-on going =
+        let stops = subst (λ fate. StopsAlone wanted n to.0 fate new) going to.1.1 in
+        subst (λ m. Goes ended (k + n) start (record old { machine = m })) (sym stops.0) (goes-alone n k old to.0 to.1.0 goes)
+
+    -- the turn then ends: with what comes next, or since the run is over
+    pub ends-on : (most : ℕ) (last : Turn) (end : Moment) → k + n < most → last ≢ Went → (new.fate ≡ None → TurnsTo ended (record old { machine = new }) last end) → ((fate : Fate) → new.fate ≡ Some fate → (last ≡ Over fate) × (end ≡ record old { machine = new })) → SomeTurned ended most start last end
+    ends-on most last end few other turns over = go new.fate refl
+      where
+        go : (fate : Option Fate) → new.fate ≡ fate → SomeTurned ended most start last end
+        go None going =
+            (k + n, (record old { machine = new }, record { goes = goes-on going; ends = ends-turn ended most (k + n) (record old { machine = new }) last end other few (turns going) }))
+        go (Some fate) is_over =
+            let stops = subst (λ fate. StopsAlone wanted n to.0 fate new) is_over to.1.1 in
+            let at = over fate is_over in
+            let before : Moment = record old { machine = to.0 } in
+            let answers : Answers before (Some fate) end = subst (λ end. Answers before (Some fate) end) (sym at.1) (stops.1.ends old.source old.written) in
+            let turned : TurnsTo ended before last end = subst (λ t. TurnsTo ended before t end) (sym at.0) (waits-none ended to.0 old.source.bytes stops.1.alone, ((λ e. stops.1.none_failed.0 (ap Some e), λ e. stops.1.none_failed.1 (ap Some e)), (answers, unasked to.0 stops.1.unasked))) in
+            (k + n, (before, record { goes = goes-alone n k old to.0 to.1.0 goes; ends = ends-turn ended most (k + n) before last end other few turned }))
+
+    -- as many steps as a turn may make are done
+    pub ends-full : (most : ℕ) → k + n ≡ most → wanted ≤ most - k → SomeTurned ended most start Went (record old { machine = new })
+    ends-full most all few = go new.fate refl
+      where
+        go : (fate : Option Fate) → new.fate ≡ fate → SomeTurned ended most start Went (record old { machine = new })
+        go None going = (k + n, (record old { machine = new }, record { goes = goes-on going; ends = (all, refl) }))
+        go (Some fate) is_over =
+            let stops = subst (λ fate. StopsAlone wanted n to.0 fate new) is_over to.1.1 in
+            absurd (omega (arith, stops.0, few, all))
 
 -- one more step follows k steps of a turn
 pub goes-further : (ended : Bool) (k : ℕ) (start before new : Moment) → Goes ended k start before → TurnsTo ended before Went new → Goes ended (k + 1) start new

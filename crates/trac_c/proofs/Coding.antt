@@ -147,13 +147,13 @@ codes-end cells from i room within least = ⊎_elim full all (cases_lt i (length
     all few = codes-enough cells from (from + i) room (omega arith) within (omega (arith, few))
 
 -- one code more is put, of those from place `from` on
-pub codes-laid : (cells : List Cell) (from i code : ℕ) (room r₁ r₂ : List ℕ) → from + i < length cells → code ≡ cell_code (has_call (neutral_of (take (from + i) cells)).calls) (get_or cells (from + i) (Byte 0)) → r₁ ≡ laid (drop from (codes_of_neutral (neutral_of (take (from + i) cells)))) room → r₂ ≡ laid_from i (code ∷ []) r₁ → r₂ ≡ laid (drop from (codes_of_neutral (neutral_of (take (from + (i + 1)) cells)))) room
-codes-laid cells from i code room r₁ r₂ within is first then =
+pub codes-laid : (cells : List Cell) (from i : ℕ) (room r₁ r₂ : List ℕ) → from + i < length cells → r₁ ≡ laid (drop from (codes_of_neutral (neutral_of (take (from + i) cells)))) room → r₂ ≡ laid_from i (cell_code (has_call (neutral_of (take (from + i) cells)).calls) (get_or cells (from + i) (Byte 0)) ∷ []) r₁ → r₂ ≡ laid (drop from (codes_of_neutral (neutral_of (take (from + (i + 1)) cells)))) room
+codes-laid cells from i room r₁ r₂ within first then =
     let k = from + i in
     let codes = codes_of_neutral (neutral_of (take k cells)) in
+    let code = cell_code (has_call (neutral_of (take k cells)).calls) (get_or cells k (Byte 0)) in
     let count : length codes ≡ k = codes-count (take k cells) ∙ length-take-le k cells (omega arith) in
-    let next = next-codes cells k within ∙ ap (λ x. codes ++ x ∷ []) (sym is) in
     let parts : drop from (codes ++ code ∷ []) ≡ drop from codes ++ code ∷ [] = drop-append-le from codes (code ∷ []) (omega (arith, count)) in
     let place : from + (i + 1) ≡ k + 1 = omega arith in
     laid-next i (drop from codes) (code ∷ []) room r₁ r₂ (omega (arith, count, length-drop from codes)) first then
-    ∙ ap (λ l. laid l room) (sym (ap (λ k. drop from (codes_of_neutral (neutral_of (take k cells)))) place ∙ ap (drop from) next ∙ parts))
+    ∙ ap (λ l. laid l room) (sym (ap (λ k. drop from (codes_of_neutral (neutral_of (take k cells)))) place ∙ ap (drop from) (next-codes cells k within) ∙ parts))

@@ -6,9 +6,7 @@ mod Coding
 mod CallPlaces
 mod Further
 mod KeptLooks
-mod ListedForms
 mod NextTexts
-mod Printing
 mod Overflow
 mod StepLines
 mod TurnBytes

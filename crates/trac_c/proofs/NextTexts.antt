@@ -7,7 +7,7 @@ use Rattle.trac_language.specs.declared.function.Function.TheVariants.{PrintStri
 use Rattle.trac_language.specs.Form.{Form}
 use Rattle.trac_language.specs.Store.{form_named}
 use Rattle.trac_language.specs.State.{OpenCall, Memory, Input, argument, arguments}
-use Rattle.trac_language.specs.Meaning.{World, Meaning, on_form, printing, show_form, meaning, form_of_call}
+use Rattle.trac_language.specs.Meaning.{World, on_form, printing, show_form, meaning}
 unfoldable use Rattle.trac_language.specs.Meaning.{meaning_of}
 use Rattle.trac_language.specs.Rule.{Rule, EndCall, rule}
 use Rattle.trac_language.specs.Step.{follow, function_of, end_call, perform, with_active, world_of}

@@ -1,23 +1,19 @@
 -- A turn between a source over its input and a sink over its buffer, in their bytes.
-use Rattle.trac_c.proofs.Imports.{◌≡◌, ℕ, [], None, append-nil, Bool, false, ◌+◌, ◌<◌, length, take, Text, Input, stream_in, MachineState, moment, next_printed, SomeTurned, LacksRoom, stands, Turn}
-use Rattle.trac_c.specs.declared.devices.GivenSource.{GivenSource}
+use mathlib.Core.Path.{transport}
+use Rattle.trac_c.proofs.Imports.{◌≡◌, ◌∙◌, ◌++◌, ℕ, [], None, false, sym, append-nil, ◌+◌, ◌<◌, length, take, Text, Input, MachineState, Moment, moment, next_printed, LacksRoom}
+use Rattle.trac_c.specs.Held.{listed}
+use Rattle.trac_c.specs.Turns.{written_to}
 use Rattle.trac_c.specs.declared.devices.OverflowSink.{OverflowSink}
 
--- a turn between a source and a sink over these bytes and this buffer, which holds this at its end
-pub told_turn :
-    (ended : Bool) (most : ℕ) (old new told : MachineState) (source source' : GivenSource)
-    (sink sink' : OverflowSink) (last : Turn) (input given : Text) (written : ℕ) →
-    stream_in source.slice ≡ record { bytes = input; ended = false } →
-    sink.len ≡ 0 → sink.behind ≡ None → sink'.behind ≡ None →
-    sink'.room.now ≡ given → written ≡ sink'.len → told ≡ new →
-    SomeTurned ended most (stands old source sink) last (stands new source' sink') →
-    SomeTurned ended most
-    (moment old (record { bytes = input; ended = false }) [])
-    last
-    (moment told (stream_in source'.slice) (take written given))
-told_turn ended most old new told source source' sink sink' last input given written at_source none clear clear' holds count same turned =
-    let front = append-nil (take written given) in
-    rw (at_source, none, clear, clear', holds, ← count, ← same, front) at turned
+-- what holds from a moment before anything is written on, by the bytes of the source and what is written in the end
+pub between : (P : Moment → Moment → Type 0) (old new : Moment) (input printed : Text) → old.source ≡ record { bytes = input; ended = false } → old.written ≡ [] → new.written ≡ printed → P old new → P (moment old.machine (record { bytes = input; ended = false }) []) (moment new.machine new.source printed)
+between P old new input printed source_is none same holds =
+    transport (λ i. P (moment old.machine (source_is i) (none i)) (moment new.machine new.source (same i))) holds
+
+-- what was written to a sink that has no byte behind its buffer stands at the buffer's front
+pub written-front : (sink : OverflowSink) (given : Text) (written : ℕ) → sink.behind ≡ None → sink.room.now ≡ given → written ≡ sink.len → written_to sink ≡ take written given
+written-front sink given written clear holds count =
+    (λ i. take (sym count i) (holds i) ++ listed (clear i)) ∙ append-nil (take written given)
 
 -- what is wanted has no room
 pub told_full :

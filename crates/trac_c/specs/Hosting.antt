@@ -1,5 +1,5 @@
 -- What C is told of a call of no function that it answers.
-use Rattle.std.specs.Prelude.{◌≡◌, ℕ, ◌==◌, ◌⊎◌, Bool, not, nat_eq, Option, Some, None, if◌then◌else◌}
+use Rattle.std.specs.Prelude.{◌≡◌, ℕ, ◌==◌, ◌⊎◌, Option, Some, None, if◌then◌else◌}
 use Rattle.trac_language.specs.declared.fate.Fate.{Fate}
 use Rattle.trac_language.specs.Text.{Text}
 use Rattle.trac_devices.specs.Devices.{Stream}

@@ -55,18 +55,18 @@ one_of_others id (r ∷ rs) rows others =
 
 -- where the words gave the argument nothing, its default is what it gets
 default_at : (rules : List Rule) (rows : List Row) (k : ℕ) (r : Rule) (v : Text) → slice_get rules k ≡ Some r
-    → only_at r.id k (map (λ (s : Rule). s.id) rules) ≡ true → bytes_eq r.id r.id ≡ true → r.defaults ≡ v ∷ [] → has_row r.id rows ≡ false
+    → only_at r.id k (map (λ (s : Rule). s.id) rules) ≡ true → r.defaults ≡ v ∷ [] → has_row r.id rows ≡ false
     → one_of r.id (fold with_default rows rules) ≡ Some (read_as (reading_by r) v)
-default_at [] rows k r v at only self is none = cc
-default_at (s ∷ rs) rows zero r v at only self is none =
+default_at [] rows k r v at only is none = cc
+default_at (s ∷ rs) rows zero r v at only is none =
     let same : s ≡ r = cc in
     one_of_others r.id rs (with_default rows s) only ∙ ap (λ (t : Rule). one_of r.id (with_default rows t)) same
-    ∙ rw (none, is, at_row_absent) (ap (option_and_then row_text) (find_own r.id rows _ none self))
-default_at (s ∷ rs) rows (suc k) r v at only self is none =
+    ∙ rw (none, is, at_row_absent) (ap (option_and_then row_text) (find_own r.id rows _ none ((bytes_eq-Decides r.id r.id).1 refl)))
+default_at (s ∷ rs) rows (suc k) r v at only is none =
     let parts = and_parts _ _ only in
     let other = not-true _ parts.0 in
     let same = unchanged (has_row r.id) rows s (λ x e. let off : bytes_eq x.id r.id ≡ false = rw e other in list_any-append (λ y. bytes_eq y.id r.id) rows (x ∷ []) ∙ rw off (or-false _)) in
-    default_at rs (with_default rows s) k r v at parts.1 self is (same ∙ none)
+    default_at rs (with_default rows s) k r v at parts.1 is (same ∙ none)
 
 -- ---- what a built command has
 
@@ -86,8 +86,7 @@ pub record HasDefaultAt (app : App) (k : ℕ) (name v : Text) : Type 0 where
 pub default_text : (app : App) (words : List Text) (k : ℕ) (name v : Text) → HasDefaultAt app k name v → gives app words name ≡ false
     → one_of name (matches_of app words) ≡ Some v
 default_text app words k name v has none =
-    let self = (bytes_eq-Decides has.rule.id has.rule.id).1 refl in
-    rw (← has.id) (default_at (built app).top.rules (given_rows app words) k has.rule v has.at (rw (← has.id) at has.only) self has.default (rw (← has.id) at none)
+    rw (← has.id) (default_at (built app).top.rules (given_rows app words) k has.rule v has.at (rw (← has.id) at has.only) has.default (rw (← has.id) at none)
     ∙ ap Some has.as_read)
 
 -- what the rules of a command with `--cells` and `--steps` say

@@ -293,13 +293,13 @@ unsigned_reads E G low high t (Some v) read only passed =
 unsigned_reads E G low high t None read only passed = absurd (only t (Err read.0) read.1 (passed.0, passed.1))
 
 -- what `get_one` gives of an option: the number of its text, in the range
-is_read : (E : Type 0) (G : Text → Result ℕ E → Type 0) (k low high : ℕ) (t : Text) (o : Option Text) (r : Option ℕ) → o ≡ Some t → ReadsOne G t r
-    → ((u : Text) (x : Result ℕ E) → G u x → ParsesUnsigned k 10 u x) → ((n : ℕ) × (r ≡ Some n) × (low ≤ n) × (n ≤ high)) → IsRead low high o r
-is_read E G k low high t o r text read only got = record {
+is_read : (low high : ℕ) (t : Text) (o : Option Text) (r : Option ℕ) → o ≡ Some t → ((n : ℕ) → r ≡ Some n → n ≡ number t)
+    → ((n : ℕ) × (r ≡ Some n) × (low ≤ n) × (n ≤ high)) → IsRead low high o r
+is_read low high t o r text parses got = record {
   some = rw got.1 refl;
   least = λ n e. rw (some_same got.0 n r got.1 e) at got.2;
   most = λ n e. rw (some_same got.0 n r got.1 e) at got.3;
-  value = λ n e. rw text (ap Some (sym (only t (Ok n) (rw e at read)).1));
+  value = λ n e. rw text (ap Some (sym (parses n e)));
 }
 
 module _ (c : Command) (m : ArgMatches) (p : IsParsedFrom c m) (app : App) (is : app_of c ≡ app) (plain : is_plain_app app ≡ true)
@@ -312,7 +312,7 @@ module _ (c : Command) (m : ArgMatches) (p : IsParsedFrom c m) (app : App) (is :
   signed_read at only fits =
       let text = number_text c m p app is plain k name default (parser.Signed (pos low) (pos high)) at own in
       let read = reads (without_minus text.0) text.1 in
-      is_read E G 32 low high (without_minus text.0) _ r text.1 read only (signed_reads E G 32 low high text.0 r read only fits text.2)
+      is_read low high (without_minus text.0) _ r text.1 (λ n e. (only (without_minus text.0) (Ok n) (rw e at read)).1) (signed_reads E G 32 low high text.0 r read only fits text.2)
 
   -- what `get_one` gives of an option of `u64`: the number of its text, in the range
   pub unsigned_read : slice_get app.top.rules k ≡ Some (number_option name (parser.Unsigned low high) default)
@@ -321,7 +321,7 @@ module _ (c : Command) (m : ArgMatches) (p : IsParsedFrom c m) (app : App) (is :
   unsigned_read at only =
       let text = number_text c m p app is plain k name default (parser.Unsigned low high) at own in
       let read = reads text.0 text.1 in
-      is_read E G 64 low high text.0 _ r text.1 read only (unsigned_reads E G low high text.0 r read only text.2)
+      is_read low high text.0 _ r text.1 (λ n e. (only text.0 (Ok n) (rw e at read)).1) (unsigned_reads E G low high text.0 r read only text.2)
 
 -- what `get_flag` gives of a flag's text, which is `true` or `false` where there is one
 pub flag_read : (o : Option Text) (flag : Bool) → ((u : Text) → o ≡ Some u → (bytes_eq u (codes "true") || bytes_eq u (codes "false")) ≡ true)

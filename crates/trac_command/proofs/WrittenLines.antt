@@ -1,5 +1,5 @@
 -- The lines, written out.
-use Rattle.std.proofs.Common.{◌≡◌, List, [], ◌∷◌, ℕ, Option, Some, None, codes, refl}
+use Rattle.std.proofs.Common.{◌≡◌, List, ℕ, Option, Some, None, codes, refl}
 use Rattle.std.specs.Fmt.{digits}
 use Rattle.trac_language.specs.declared.fate.Fate.{Fate}
 use Rattle.trac_language.specs.declared.fate.Fate.TheVariants.{Halted, InputEnded, Workspace, Steps, InputFailed, OutputFailed}

@@ -1,5 +1,5 @@
 -- `trac_engine_delete` lends the machine for the call. Assumes `Logic`.
-use Rattle.trac_c.proofs.Walking.{ℕ, refl, List, [], ◌∷◌, full_share, id⊢, ex_i, tables, u8, u32, uint_vals, uint_Tells, uint_Lawful, block_ptr, lies_at, Bor, shr_slice_vals, shr_slice_Tells, lasts_of, triple_of, framed, w32, w64, named, vptr, alloc_all, pass_all, free_all, look_at, get, sets, lands_as, through, ◌$◌, !, sem, stop, addr, no_more, and_then, returns, enter, of_opd, MachineState, machine, behind, lent_as, meets_holding, gives, lends}
+use Rattle.trac_c.proofs.Walking.{ℕ, refl, List, [], ◌∷◌, full_share, id⊢, ex_i, tables, u8, u32, uint_Lawful, block_ptr, lies_at, Bor, shr_slice_vals, shr_slice_Tells, lasts_of, triple_of, framed, w32, named, vptr, alloc_all, pass_all, free_all, look_at, get, sets, lands_as, through, ◌$◌, !, sem, stop, addr, no_more, and_then, returns, enter, of_opd, MachineState, machine, behind, lent_as, meets_holding, gives, lends}
 use Rattle.trac_c.specs.Changes.{Deleted}
 use Rattle.trac_c.specs.contracts.changing.delete as on
 use Rattle.trac_c.proofs.changing.delete.Met as on_thm

@@ -1,5 +1,5 @@
 -- `trac_engine_set_meta` lends the machine for the call. Assumes `Logic`.
-use Rattle.trac_c.proofs.Walking.{ℕ, refl, List, [], ◌∷◌, full_share, id⊢, ex_i, tables, u8, u32, uint_vals, uint_Tells, uint_Lawful, block_ptr, lies_at, Bor, shr_slice_vals, shr_slice_Tells, lasts_of, triple_of, framed, w32, w64, named, vptr, alloc_all, pass_all, free_all, look_at, get, sets, lands_as, through, ◌$◌, !, sem, stop, addr, no_more, and_then, returns, enter, of_opd, MachineState, machine, behind, lent_as, meets_holding, gives, lends}
+use Rattle.trac_c.proofs.Walking.{ℕ, refl, [], ◌∷◌, full_share, id⊢, ex_i, tables, u32, uint_vals, uint_Tells, uint_Lawful, block_ptr, lies_at, lasts_of, triple_of, framed, w32, vptr, alloc_all, pass_all, free_all, look_at, get, sets, lands_as, through, ◌$◌, !, sem, stop, addr, no_more, and_then, returns, enter, of_opd, MachineState, machine, behind, lent_as, meets_holding, gives, lends}
 use Rattle.trac_c.specs.Changes.{MetaSet}
 use Rattle.trac_c.specs.contracts.changing.set_meta as on
 use Rattle.trac_c.proofs.changing.set_meta.Met as on_thm

@@ -4,7 +4,7 @@ use Rattle.trac_c.proofs.forms.lay_characters.Goals as goal
 
 pub loop-i-preserved : goal.loop-i-preserved
 loop-i-preserved c = record {
-  laid = laid-mapped character_of c.args.cells.now c.loop-i.i _ _ c.args.room.now c.loop-i.room c.put.new.room (omega arith) c.character_of.ensures c.loop-i.invariant.laid c.put.ensures;
+  laid = laid-mapped character_of c.args.cells.now c.args.room.now c.loop-i.i _ _ c.loop-i.room c.put.new.room (omega arith) c.character_of.ensures c.loop-i.invariant.laid c.put.ensures;
   within = omega arith;
 }
 

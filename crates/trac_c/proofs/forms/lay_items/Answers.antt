@@ -10,6 +10,6 @@ loop-i-preserved c =
     let body = c.args.form.now.body in
     let code = c.item_code.ensures ∙ ap code_of (c.item.ensures ∙ slice_get-get_or body c.loop-i.i (Byte 0) (omega arith)) in
     record {
-      laid = laid-mapped item_code body c.loop-i.i (Byte 0) _ c.args.room.now c.loop-i.room c.put.new.room (omega arith) code c.loop-i.invariant.laid c.put.ensures;
+      laid = laid-mapped item_code body c.args.room.now c.loop-i.i (Byte 0) _ c.loop-i.room c.put.new.room (omega arith) code c.loop-i.invariant.laid c.put.ensures;
       within = omega arith;
     }

@@ -1,4 +1,4 @@
-use Rattle.std.specs.Prelude.{◌≢◌, ℕ, zero, suc, List, [], false, None}
+use Rattle.std.specs.Prelude.{◌≢◌, ℕ, zero, suc, List, [], false}
 use Rattle.trac_c.proofs.Imports.{◌≡◌, Text, MachineState, Option, Some, refl, sym, ap, ◌∙◌, subst, drop, ending, next_function}
 use Rattle.trac_language.specs.declared.function.Function.{Function}
 use Rattle.trac_language.specs.declared.function.Function.TheVariants.{PrintString, PrintForm}

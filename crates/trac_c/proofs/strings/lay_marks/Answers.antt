@@ -1,5 +1,5 @@
 use Rattle.std.proofs.lemmas.List.{drop_all}
-use Rattle.trac_c.proofs.Imports.{◌≡◌, ◌+◌, ◌∙◌, take, get_or, sym, ap, arith, length-drop, length-take-le, Byte, neutral_of, laid, codes_of_neutral, cell_code, has_call, is_open_after}
+use Rattle.trac_c.proofs.Imports.{laid_from, ◌∷◌, [], ◌≡◌, ◌+◌, ◌∙◌, take, get_or, sym, ap, arith, length-drop, length-take-le, Byte, neutral_of, laid, codes_of_neutral, cell_code, has_call, is_open_after}
 use Rattle.trac_c.proofs.Coding.{codes-count, codes-end, codes-laid, next-call}
 use Rattle.trac_c.proofs.strings.lay_marks.Goals as goal
 
@@ -36,8 +36,8 @@ loop-i-preserved c =
     let place : from + (c.loop-i.i + 1) ≡ k + 1 = omega arith in
     record {
       laid =
-          codes-laid cells from c.loop-i.i c.code.result c.args.room.now c.loop-i.room c.put.new.room (omega arith)
-          (c.code.ensures ∙ ap (λ b. cell_code b cell) i.in_call) i.laid c.put.ensures;
+          codes-laid cells from c.loop-i.i c.args.room.now c.loop-i.room c.put.new.room (omega arith) i.laid
+          (c.put.ensures ∙ ap (λ code. laid_from c.loop-i.i (code ∷ []) c.loop-i.room) (c.code.ensures ∙ ap (λ b. cell_code b cell) i.in_call));
       in_call =
           c.is_in_call-in_call.ensures ∙ ap (is_open_after cell) i.in_call ∙ sym (next-call cells k (omega arith))
           ∙ sym (ap (λ k. has_call (neutral_of (take k cells)).calls) place);

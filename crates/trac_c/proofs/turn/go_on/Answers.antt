@@ -27,21 +27,17 @@ returns-clause-settings c = c.loop-done.invariant.settings
 pub returns-then-done-most-clause-turned : goal.returns-then-done-most-clause-turned
 returns-then-done-most-clause-turned c = λ going.
     let i = c.loop-done.invariant.going going in
-    let sink = c.loop-done.sink in
-    ends-full c.args.most c.advance-progress.result.done c.loop-done.done c.args.ended (stands c.args.machine.now c.args.source.now c.args.sink.now) c.loop-done.machine c.advance-progress.new.self (stream_in c.loop-done.source.slice) (written_to sink)
-    (omega (arith, c.if-done-most.true)) (c.args.most - c.loop-done.done) (omega arith) (c.advance-progress.ensures.advanced i.1) i.0
+    ends-full c.args.ended (stands c.args.machine.now c.args.source.now c.args.sink.now) (c.args.most - c.loop-done.done) c.advance-progress.result.done c.loop-done.done (stands c.loop-done.machine c.loop-done.source c.loop-done.sink) c.advance-progress.new.self
+    (c.advance-progress.ensures.advanced i.1) i.0 c.args.most (omega (arith, c.if-done-most.true)) (omega arith)
 
 pub returns-then-ne-clause-turned : goal.returns-then-ne-clause-turned
 returns-then-ne-clause-turned c = λ going.
     let i = c.loop-done.invariant.going going in
-    let sink = c.loop-done.sink in
-    let source = stream_in c.loop-done.source.slice in
-    let written = written_to sink in
     let h = c.step_on-part.ensures in
-    ends-on c.args.most c.advance-progress.result.done c.loop-done.done c.args.ended (stands c.args.machine.now c.args.source.now c.args.sink.now) (stands c.step_on-part.new.machine c.step_on-part.new.source c.step_on-part.new.sink) c.loop-done.machine c.advance-progress.new.self source written c.step_on-part.result
+    ends-on c.args.ended (stands c.args.machine.now c.args.source.now c.args.sink.now) (c.args.most - c.loop-done.done) c.advance-progress.result.done c.loop-done.done (stands c.loop-done.machine c.loop-done.source c.loop-done.sink) c.advance-progress.new.self
+    (c.advance-progress.ensures.advanced i.1) i.0 c.args.most c.step_on-part.result (stands c.step_on-part.new.machine c.step_on-part.new.source c.step_on-part.new.sink)
     (omega (arith, c.if-done-most.false, c.advance-progress.ensures.few, c.loop-done-test.true)) (grind (arith, common_steps)) h.turns
     (λ fate over. (let here = h.over fate over in (here.0, (λ i. stands (here.1 i) (here.2 i) (here.3 i)))))
-    (c.args.most - c.loop-done.done) (c.advance-progress.ensures.advanced i.1) i.0
 
 pub loop-done-preserved : goal.loop-done-preserved
 loop-done-preserved c =
@@ -56,7 +52,7 @@ loop-done-preserved c =
           let i = c.loop-done.invariant.going going in
           let start = stands c.args.machine.now c.args.source.now c.args.sink.now in
           let stays = is-going c.advance-progress.new.self.fate (λ f over. (let here = h.over f over in cc)) in
-          let goes = goes-on (c.args.most - c.loop-done.done) c.advance-progress.result.done c.loop-done.done c.args.ended start c.loop-done.machine c.advance-progress.new.self source written stays (c.advance-progress.ensures.advanced i.1) i.0 in
+          let goes = goes-on c.args.ended start (c.args.most - c.loop-done.done) c.advance-progress.result.done c.loop-done.done (moment c.loop-done.machine source written) c.advance-progress.new.self (c.advance-progress.ensures.advanced i.1) i.0 stays in
           (goes-further c.args.ended (c.loop-done.done + c.advance-progress.result.done) start (moment c.advance-progress.new.self source written) _ goes (subst (λ part. TurnsTo c.args.ended (moment c.advance-progress.new.self source written) part (stands c.step_on-part.new.machine c.step_on-part.new.source c.step_on-part.new.sink)) went (h.turns stays)), others.0);
       over = λ fate over.
           let before = c.loop-done.invariant.over fate over in

@@ -1,7 +1,9 @@
-use Rattle.trac_c.proofs.Imports.{rules, ap, refl, ◌∙◌, stream_in}
+use Rattle.trac_c.proofs.Imports.{rules, ap, ◌∙◌, ◌++◌, take, stream_in, SomeTurned, turn_number, wanted_by}
+use Rattle.trac_c.specs.Held.{listed}
+use Rattle.trac_c.specs.Turns.{is_ended}
 use Rattle.trac_c.proofs.Again.{told-again}
 use Rattle.trac_c.proofs.Further.{tells}
-use Rattle.trac_c.proofs.TurnBytes.{told_turn, told_full}
+use Rattle.trac_c.proofs.TurnBytes.{between, told_full, written-front}
 use Rattle.trac_c.proofs.turn.take_turn.Goals as goal
 
 pub returns : goal.returns
@@ -13,9 +15,9 @@ returns c =
         (
           stream_in c.go_on-last.new.source.slice,
           tells _ _ _ _ _ _ _ _ _ going
-              (told_turn _ _ _ _ _ c.new-source.result c.go_on-last.new.source
-              c.new-sink.result c.go_on-last.new.sink _ _ _ _ (ap stream_in c.new-source.ensures)
-              c.new-sink.ensures.empty.0 c.new-sink.ensures.empty.1 c.go_on-last.ensures.fits (search rules) c.len.ensures.len refl
+              (between (λ old new. SomeTurned (is_ended c.args.ended) c.args.most old c.go_on-last.result new) _ _ _ _ (ap stream_in c.new-source.ensures)
+              (λ i. take (c.new-sink.ensures.empty.0 i) c.new-sink.result.room.now ++ listed (c.new-sink.ensures.empty.1 i))
+              (written-front c.go_on-last.new.sink _ _ c.go_on-last.ensures.fits (search rules) c.len.ensures.len)
               (c.go_on-last.ensures.turned going))
               c.turn_number.ensures c.steps.ensures c.peak.ensures
               (search rules) (search rules) (search rules)
@@ -26,9 +28,8 @@ returns c =
       over = λ fate over.
           let again = c.go_on-last.ensures.over fate over in (
             again.1,
-            told-again c.args.most fate c.args.machine.now c.go_on-last.result _ again.0 c.turn_number.ensures
+            told-again c.args.most fate c.args.machine.now _ (c.turn_number.ensures ∙ ap turn_number again.0)
                 (c.peak.ensures ∙ ap (λ m. m.peak) again.1) (c.steps.ensures ∙ ap (λ m. m.steps) again.1)
-                (c.len.ensures.len ∙ again.3 ∙ c.new-sink.ensures.empty.0) (search rules)
-                c.wanted.ensures,
+                (c.len.ensures.len ∙ again.3 ∙ c.new-sink.ensures.empty.0, search rules) (c.wanted.ensures ∙ ap wanted_by again.0),
           );
     }

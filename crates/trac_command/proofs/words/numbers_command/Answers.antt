@@ -1,5 +1,6 @@
 use Rattle.std.proofs.Common.{◌≡◌, ◌∙◌, ap, ap₂, codes}
-use Rattle.std.specs.Prelude.{pos, ℤ, Some}
+use mathlib.Core.Path.{transport}
+use Rattle.std.specs.Prelude.{pos, Some}
 use Rattle.std.proofs.lemmas.Result.{IfOk-weaker}
 use Rattle.clap.specs.Words.{NarrowsTo, app_of, new_app, rule_of, with_rule}
 use Rattle.clap.specs.Simple.{app_of_fields}
@@ -9,19 +10,14 @@ use Rattle.clap.specs.declared.builder.value_parser.ValueParser.TheVariants as p
 use Rattle.trac_command.specs.CommandLine.{cells_option, number_option, numbers_command, steps_option}
 use Rattle.trac_command.proofs.words.numbers_command.Goals as goal
 
--- a parser that was narrowed to a range
-narrowed : (p p' : ValueParser) (low low' high high' : ℤ) (r : ValueParser) → NarrowsTo p (Some low) (Some high) r
-    → p ≡ p' → low ≡ low' → high ≡ high' → NarrowsTo p' (Some low') (Some high') r
-narrowed p p' low low' high high' r h same is_low is_high = rw (← same, ← is_low, ← is_high) h
-
 pub returns : goal.returns
 unfolding numbers_command cells_option steps_option
 returns c =
     let default = c.args.default_steps.now in
     let cells_parser : c.range.result ≡ parser.Signed (pos 1) (pos 16777216) =
-    narrowed _ _ _ _ _ _ c.range.result c.range.ensures c.value_parser.ensures c.new.ensures.start c.new.ensures.end in
+    transport (λ i. NarrowsTo (c.value_parser.ensures i) (Some (c.new.ensures.start i)) (Some (c.new.ensures.end i)) c.range.result) c.range.ensures in
     let steps_parser : c.range-2.result ≡ parser.Unsigned 1 1000000000000 =
-    narrowed _ _ _ _ _ _ c.range-2.result c.range-2.ensures c.value_parser-2.ensures c.new-2.ensures.start c.new-2.ensures.end in
+    transport (λ i. NarrowsTo (c.value_parser-2.ensures i) (Some (c.new-2.ensures.start i)) (Some (c.new-2.ensures.end i)) c.range-2.result) c.range-2.ensures in
     let cells_is : rule_of c.help.result ≡ cells_option =
     ap rule_of c.help.ensures ∙ c.number-cells.ensures.rule ∙ ap (λ (p : ValueParser). number_option (codes "cells") p (codes "65536")) cells_parser in
     let steps_is : rule_of c.help-2.result ≡ steps_option default =
