@@ -560,10 +560,11 @@ pub fn facts_of(function: Function) -> Facts
     ensures named { function_named result.name.now ≡ Some function }
     ensures traits { result.traits ≡ traits function }
 {
-    *row(function)
+    row(function)
 }
 
-/// What holds for every call of a function, as its row says. It costs less than the row.
+/// What holds for every call of a function, as its row says. It costs less than the row, since the compiler looks up
+/// only what the caller uses.
 #[inline(always)]
 pub fn traits_of(function: Function) -> Traits
     ensures { result ≡ traits function }
@@ -572,49 +573,50 @@ pub fn traits_of(function: Function) -> Traits
 }
 
 // The row of a function.
-fn row(function: Function) -> &'static Facts
-    ensures name { result.now.name.now ≡ name_of function }
-    ensures traits { result.now.traits ≡ traits function }
+#[inline(always)]
+fn row(function: Function) -> Facts
+    ensures name { result.name.now ≡ name_of function }
+    ensures traits { result.traits ≡ traits function }
 {
     match function {
-        Function::ReadString => &READ_STRING,
-        Function::ReadCharacter => &READ_CHARACTER,
-        Function::ChangeMeta => &CHANGE_META,
-        Function::PrintString => &PRINT_STRING,
-        Function::Halt => &HALT,
-        Function::DefineString => &DEFINE_STRING,
-        Function::SegmentString => &SEGMENT_STRING,
-        Function::DeleteDefinition => &DELETE_DEFINITION,
-        Function::DeleteAll => &DELETE_ALL,
-        Function::ListNames => &LIST_NAMES,
-        Function::PrintForm => &PRINT_FORM,
-        Function::CallForm => &CALL_FORM,
-        Function::CallSegment => &CALL_SEGMENT,
-        Function::CallCharacter => &CALL_CHARACTER,
-        Function::CallNumber => &CALL_NUMBER,
-        Function::InitialPart => &INITIAL_PART,
-        Function::CallRestore => &CALL_RESTORE,
-        Function::Equal => &EQUAL,
-        Function::Greater => &GREATER,
+        Function::ReadString => READ_STRING,
+        Function::ReadCharacter => READ_CHARACTER,
+        Function::ChangeMeta => CHANGE_META,
+        Function::PrintString => PRINT_STRING,
+        Function::Halt => HALT,
+        Function::DefineString => DEFINE_STRING,
+        Function::SegmentString => SEGMENT_STRING,
+        Function::DeleteDefinition => DELETE_DEFINITION,
+        Function::DeleteAll => DELETE_ALL,
+        Function::ListNames => LIST_NAMES,
+        Function::PrintForm => PRINT_FORM,
+        Function::CallForm => CALL_FORM,
+        Function::CallSegment => CALL_SEGMENT,
+        Function::CallCharacter => CALL_CHARACTER,
+        Function::CallNumber => CALL_NUMBER,
+        Function::InitialPart => INITIAL_PART,
+        Function::CallRestore => CALL_RESTORE,
+        Function::Equal => EQUAL,
+        Function::Greater => GREATER,
         Function::Arithmetic(operation) => arithmetic(operation),
-        Function::Union => &UNION,
-        Function::Intersection => &INTERSECTION,
-        Function::Complement => &COMPLEMENT,
-        Function::Shift => &SHIFT,
-        Function::Rotate => &ROTATE,
+        Function::Union => UNION,
+        Function::Intersection => INTERSECTION,
+        Function::Complement => COMPLEMENT,
+        Function::Shift => SHIFT,
+        Function::Rotate => ROTATE,
     }
 }
 
 // The row of an operation of arithmetic.
 #[inline(always)]
-fn arithmetic(operation: Arith) -> &'static Facts
-    ensures name { result.now.name.now ≡ name_of (Function.Arithmetic operation) }
-    ensures traits { result.now.traits ≡ traits (Function.Arithmetic operation) }
+fn arithmetic(operation: Arith) -> Facts
+    ensures name { result.name.now ≡ name_of (Function.Arithmetic operation) }
+    ensures traits { result.traits ≡ traits (Function.Arithmetic operation) }
 {
     match operation {
-        Arith::Add => &ADD,
-        Arith::Subtract => &SUBTRACT,
-        Arith::Multiply => &MULTIPLY,
-        Arith::Divide => &DIVIDE,
+        Arith::Add => ADD,
+        Arith::Subtract => SUBTRACT,
+        Arith::Multiply => MULTIPLY,
+        Arith::Divide => DIVIDE,
     }
 }
