@@ -8,10 +8,7 @@ use Rattle.trac_functions.proofs.CellRanges.{drop-range, take-range}
 
 character_of-seen : (cell : Cell) → character_of (seen cell) ≡ character_of cell
 character_of-seen (Byte c) = refl
-character_of-seen (Call mode k) = refl
-character_of-seen Comma = refl
-character_of-seen (Gap k) = refl
-character_of-seen (Head k) = refl
+character_of-seen _ = refl
 
 pub text_of_cells-seen : (cells : List Cell) → text_of_cells (map seen cells) ≡ text_of_cells cells
 text_of_cells-seen [] = refl
@@ -19,10 +16,7 @@ text_of_cells-seen (cell ∷ cells) = rw (character_of-seen cell, text_of_cells-
 
 byte-seen : (cell : Cell) → IsByte (seen cell) → IsByte cell
 byte-seen (Byte c) h = tt
-byte-seen (Call mode k) h = h
-byte-seen Comma h = h
-byte-seen (Gap k) h = h
-byte-seen (Head k) h = h
+byte-seen _ h = h
 
 pub bytes-seen : (cells : List Cell) → All IsByte (map seen cells) → All IsByte cells
 bytes-seen [] h = λ k d within. absurd (omega arith)
@@ -34,10 +28,7 @@ length-seen cells part e = sym (length-map cells seen) ∙ ap length e
 
 flat-byte : (cell : Cell) → IsByte cell → Byte (character_of cell) ≡ cell
 flat-byte (Byte c) h = refl
-flat-byte (Call mode k) h = absurd h
-flat-byte Comma h = absurd h
-flat-byte (Gap k) h = absurd h
-flat-byte (Head k) h = absurd h
+flat-byte _ h = absurd h
 
 -- characters are the cells of their text
 pub flat-bytes : (cells : List Cell) → All IsByte cells → flat_text (text_of_cells cells) ≡ cells

@@ -91,11 +91,8 @@ pub no_call-tail : (cell : Cell) (cells : List Cell) → NoCall (cell ∷ cells)
 no_call-tail cell cells h = λ k d within. h (suc k) d (omega arith)
 
 with_cell-one : (base : Text) (call : OpenCall) (outer : List OpenCall) (cell : Cell) → is_call cell ≡ false → with_cell (record { base = base; calls = call ∷ outer }) cell ≡ record { base = base; calls = with_one call cell ∷ outer }
-with_cell-one base call outer (Byte c) h = refl
 with_cell-one base call outer (Call mode k) h = absurd cc
-with_cell-one base call outer Comma h = refl
-with_cell-one base call outer (Gap k) h = refl
-with_cell-one base call outer (Head k) h = refl
+with_cell-one base call outer _ h = refl
 
 pub with_cells-grown : (base : Text) (call : OpenCall) (outer : List OpenCall) (cells : List Cell) → NoCall cells → with_cells (record { base = base; calls = call ∷ outer }) cells ≡ record { base = base; calls = grown call cells ∷ outer }
 with_cells-grown base call outer [] h = refl
@@ -104,11 +101,8 @@ with_cells-grown base call outer (cell ∷ cells) h =
     ∙ with_cells-grown base (with_one call cell) outer cells (no_call-tail cell cells h)
 
 with_cell-call : (n : Neutral) (cell : Cell) → IsTrue (is_call cell) → with_cell n cell ≡ record n { calls = begin_call (mode_of cell) n.calls }
-with_cell-call n (Byte c) h = absurd cc
 with_cell-call n (Call mode k) h = refl
-with_cell-call n Comma h = absurd cc
-with_cell-call n (Gap k) h = absurd cc
-with_cell-call n (Head k) h = absurd cc
+with_cell-call n _ h = absurd cc
 
 -- a call that was just opened
 abbrev pub opened : Mode → OpenCall
@@ -136,10 +130,7 @@ grown-mode call (cell ∷ cells) = grown-mode (with_one call cell) cells ∙ one
   where
     one : (call : OpenCall) (cell : Cell) → (with_one call cell).mode ≡ call.mode
     one call (Byte c) = refl
-    one call (Call mode k) = refl
-    one call Comma = refl
-    one call (Gap k) = refl
-    one call (Head k) = refl
+    one call _ = refl
 
 -- texts whose first goes on the last of a call
 abbrev joined : List Text → Text → List Text → List Text
