@@ -183,17 +183,7 @@ module _ {I O : Type 0} (performed : Standing I O → Option Fate → Standing I
         settings = record { room = refl; allowance = refl; stops = refl };
       } in
       drive-run 7 need loaded begun
-      (record {
-        stage = refl;
-        room = refl;
-        sound = idling-sound w h.sound h.fits;
-        allowed = omega (arith, h.allowed);
-        some = omega arith;
-        passes = idling-advances w;
-        known = inl (omega (arith, h.need_is));
-        peak_is = omega (arith, top_is);
-        done_is = omega (arith, all_is);
-      })
+      (record { stage = refl; room = refl; sound = idling-sound w h.sound h.fits; allowed = omega (arith, h.allowed); some = omega arith; passes = idling-advances w; known = inl (omega (arith, h.need_is)); peak_is = omega (arith, top_is); done_is = omega (arith, all_is) })
       (drive-next need s loaded refl (inl (loading, refl)) top_is refl goes)
 
   -- a string is read, and `scanned` characters of it are scanned

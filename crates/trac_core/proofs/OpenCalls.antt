@@ -205,10 +205,7 @@ read-cell cells place read is =
   where
     of-seen : (cell : Cell) → is_call cell ≡ is_call (seen cell)
     of-seen (Byte c) = refl
-    of-seen (Call mode k) = refl
-    of-seen Comma = refl
-    of-seen (Gap k) = refl
-    of-seen (Head k) = refl
+    of-seen _ = refl
 
     same : (read : Option Cell) → is_call (unwrap_or read (Byte 0)) ≡ is_call (unwrap_or (option_map seen read) (Byte 0))
     same None = refl

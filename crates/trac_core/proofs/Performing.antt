@@ -202,13 +202,7 @@ module _ (s : Scene) (mid : Contents) (place : ℕ) (f : Function) (rest : List 
       let all = whole-arguments s.contents.neutral place rest rest_is in
       tried-answer place (Some f) s (record s { contents = new }) _ needed
       (record { names = names; means = ap (λ args. meaning_of f args (world_in s input)) (sym all) ∙ means; needs = needs ∙ ap (λ args. used s.contents + built (Some f) args (world_in s input)) all; fits = fits })
-      (record {
-        stands = stands;
-        world = refl;
-        prints = sym (append-nil s.written);
-        stays_ended = λ e. e;
-        read_all = λ reads. absurd (let none = ap (λ b. b && not (list_any (λ c. c == s.meta) s.source.bytes)) (no_comma_from-reads f no_comma_from) in cc);
-      })
+      (record { stands = stands; world = refl; prints = sym (append-nil s.written); stays_ended = λ e. e; read_all = λ reads. absurd (let none = ap (λ b. b && not (list_any (λ c. c == s.meta) s.source.bytes)) (no_comma_from-reads f no_comma_from) in cc) })
 
   -- a call that builds a value which stands at the end of neutral
   tried-value : (value : Text) → IsValue f named_args s.contents mid false value → TriedCall place s None (used s.contents + (length mid.neutral - length s.contents.neutral)) (record s { contents = value_delivered place (length s.contents.neutral) mid })

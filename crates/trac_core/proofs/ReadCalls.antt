@@ -62,12 +62,7 @@ module _ (w mid : Contents) (place meta : ℕ) (text : Text) (call : IsCall w pl
       let here = world w.forms meta (ending source.bytes) in
       let room = room-reads meta w mid text reads in
       tried-answer place (Some ReadString) (scene w meta source written) _ _ (used w + (length mid.neutral - length w.neutral))
-      (record {
-        names = call.names;
-        means = ap (λ t. read_string t (from_meta here) here) before ∙ means;
-        needs = put-reads meta w mid text reads ∙ ap (λ t. used w + length t) (sym before);
-        fits = omega (arith, put-reads meta w mid text reads, used-reads meta w mid text reads);
-      })
+      (record { names = call.names; means = ap (λ t. read_string t (from_meta here) here) before ∙ means; needs = put-reads meta w mid text reads ∙ ap (λ t. used w + length t) (sym before); fits = omega (arith, put-reads meta w mid text reads, used-reads meta w mid text reads) })
       (record { stands = delivered-value w mid place text w.forms call.innermost reads.pushed; world = refl; prints = sym (append-nil written); stays_ended = stays_ended; read_all = read_all })
 
   -- the meta character followed
@@ -102,12 +97,7 @@ module _ (w mid : Contents) (place meta : ℕ) (text : Text) (call : IsCall w pl
       let bytes_is : source.bytes ≡ [] = gave ∙ text_is in
       let room = room-reads meta w mid text reads in
       tried-end place (Some ReadString) InputEnded (scene w meta source written) source' (used new)
-      (record {
-        names = call.names;
-        means = ap (λ bytes. meaning_of ReadString (arguments_at w.neutral place) (world w.forms meta (ending bytes))) bytes_is;
-        needs = same ∙ used-reads meta w mid text reads ∙ ap (λ n. used w + n) (none ∙ sym (ap (λ bytes. length (before_first (λ c. c == meta) bytes)) bytes_is));
-        fits = omega arith;
-      })
+      (record { names = call.names; means = ap (λ bytes. meaning_of ReadString (arguments_at w.neutral place) (world w.forms meta (ending bytes))) bytes_is; needs = same ∙ used-reads meta w mid text reads ∙ ap (λ n. used w + n) (none ∙ sym (ap (λ bytes. length (before_first (λ c. c == meta) bytes)) bytes_is)); fits = omega arith })
       (none_left ∙ sym bytes_is) old p m room_is memory_is allowed _ refl refl
     where
       nothing : (text : Text) → length text ≡ 0 → text ≡ []
@@ -124,12 +114,7 @@ module _ (w mid : Contents) (place meta : ℕ) (text : Text) (call : IsCall w pl
       let after : from_meta here ≡ [] = from-none p text reads.no_meta in
       let room = room-reads meta w mid text reads in
       tried-failed place (Some ReadString) (scene w meta source written) new source' text (used new)
-      (record {
-        names = call.names;
-        means = ap (λ t. read_string t (from_meta here) here) before ∙ ap (λ t. read_string text t here) after;
-        needs = same ∙ used-reads meta w mid text reads ∙ ap (λ t. used w + length t) (sym before);
-        fits = omega arith;
-      })
+      (record { names = call.names; means = ap (λ t. read_string t (from_meta here) here) before ∙ ap (λ t. read_string text t here) after; needs = same ∙ used-reads meta w mid text reads ∙ ap (λ t. used w + length t) (sym before); fits = omega arith })
       gave open_still
 
   -- no cell was free for the next byte
@@ -156,12 +141,7 @@ module _ (w : Contents) (place meta : ℕ) (call : IsCall w place (Some ReadChar
       let cells : used mid ≡ used w + 1 = ap used pushed ∙ omega arith in
       let one : length mid.neutral ≡ length w.neutral + 1 = ap (λ (w : Contents). length w.neutral) pushed ∙ long in
       tried-answer place (Some ReadCharacter) (scene w meta source written) _ _ (used w + (length mid.neutral - length w.neutral))
-      (record {
-        names = call.names;
-        means = means;
-        needs = (let more : used w + (length mid.neutral - length w.neutral) ≡ used w + 1 = omega arith in more) ∙ ap (λ bytes. used w + built (Some ReadCharacter) args (world w.forms meta (ending bytes))) (sym gave);
-        fits = omega arith;
-      })
+      (record { names = call.names; means = means; needs = (let more : used w + (length mid.neutral - length w.neutral) ≡ used w + 1 = omega arith in more) ∙ ap (λ bytes. used w + built (Some ReadCharacter) args (world w.forms meta (ending bytes))) (sym gave); fits = omega arith })
       (record { stands = delivered-value w mid place (byte ∷ []) w.forms call.innermost pushed; world = refl; prints = sym (append-nil written); stays_ended = λ e. absurd cc; read_all = λ e. absurd cc })
 
   pub character-full : (new : Contents) (byte : ℕ) (source source' : Stream) (written : Text) → w.room ≤ used w → source.bytes ≡ byte ∷ source'.bytes → AnswersCall place (scene w meta source written) Full (scene new meta source' written)

@@ -9,7 +9,8 @@ ghost use Rattle.trac_functions.specs.Calls.{KeepsRoom};
 ghost use Rattle.trac_core.specs.StepsInRow.{AsksFor, HasNoCommaFrom, idling_begun};
 ghost use Rattle.trac_core.specs.Performed.{needs_device};
 ghost use Rattle.trac_core.specs.OpenCalls.{stops_at};
-ghost use Rattle.trac_core.specs.Driving.{Stage, stage, Standing, PerformedFor, Declined, PerformedAlone, PerformedWith, ReadsOn};
+ghost use Rattle.trac_core.specs.Driving.{Stage, stage, Standing, PerformedFor, Declined};
+ghost use Rattle.trac_core.specs.Driving.{PerformedAlone, PerformedWith, ReadsOn};
 
 use crate::call::{asks_host, named, needs_device, perform_alone, perform_next};
 use crate::idling::{begin_idling, load_idling};

@@ -1,4 +1,5 @@
 use Rattle.std.proofs.Common.{◌≡◌, ◌∙◌, ap, ap₂, codes, subst}
+use mathlib.Core.Path.{transport}
 use Rattle.std.specs.Prelude.{pos, ℤ, Some}
 use Rattle.std.proofs.lemmas.Result.{IfOk-weaker}
 use Rattle.clap.specs.Simple.{app_of_fields}
@@ -10,22 +11,15 @@ use Rattle.trac_command.specs.CommandLine.{number_option}
 use Rattle.trac_trace.specs.CommandLine.{calls_flag, forms_flag, from_option, last_option, to_option, views_command, warn_flag, width_option, columns_option}
 use Rattle.trac_trace.proofs.words.command.Goals as goal
 
--- the numbers that `u64` can hold, narrowed to a range
-narrowed : (low high least most : ℤ) (q r : ValueParser) → NarrowsTo (parser.Unsigned 0 18446744073709551615) (Some low) (Some high) r
-    → low ≡ least → high ≡ most → (NarrowsTo (parser.Unsigned 0 18446744073709551615) (Some least) (Some most) r → r ≡ q) → r ≡ q
-narrowed low high least most q r given is_low is_high is =
-    let at_low = subst (λ (i : ℤ). NarrowsTo (parser.Unsigned 0 18446744073709551615) (Some i) (Some high) r) is_low given in
-    is (subst (λ (i : ℤ). NarrowsTo (parser.Unsigned 0 18446744073709551615) (Some least) (Some i) r) is_high at_low)
-
 pub returns : goal.returns
 unfolding views_command from_option to_option last_option width_option columns_option calls_flag forms_flag warn_flag
 returns c =
     let from_parser : c.range-from.result ≡ parser.Unsigned 1 1000000000000 =
-    narrowed _ _ (pos 1) (pos 1000000000000) _ c.range-from.result (rw c.value_parser.ensures at c.range-from.ensures) c.new.ensures.start c.new.ensures.end (λ e. e) in
+    transport (λ i. NarrowsTo (c.value_parser.ensures i) (Some (c.new.ensures.start i)) (Some (c.new.ensures.end i)) c.range-from.result) c.range-from.ensures in
     let to_parser : c.range-to.result ≡ parser.Unsigned 1 1000000000000 =
-    narrowed _ _ (pos 1) (pos 1000000000000) _ c.range-to.result (rw c.value_parser-2.ensures at c.range-to.ensures) c.new-2.ensures.start c.new-2.ensures.end (λ e. e) in
+    transport (λ i. NarrowsTo (c.value_parser-2.ensures i) (Some (c.new-2.ensures.start i)) (Some (c.new-2.ensures.end i)) c.range-to.result) c.range-to.ensures in
     let last_parser : c.range-last.result ≡ parser.Unsigned 0 1000000 =
-    narrowed _ _ (pos 0) (pos 1000000) _ c.range-last.result (rw c.value_parser-3.ensures at c.range-last.ensures) c.new-3.ensures.start c.new-3.ensures.end (λ e. e) in
+    transport (λ i. NarrowsTo (c.value_parser-3.ensures i) (Some (c.new-3.ensures.start i)) (Some (c.new-3.ensures.end i)) c.range-last.result) c.range-last.ensures in
     let width_parser : c.range-width.result ≡ parser.Signed (pos 0) (pos 16777216) =
     rw (c.value_parser-4.ensures, c.new-4.ensures.start, c.new-4.ensures.end) at c.range-width.ensures in
     let columns_parser : c.range-columns.result ≡ parser.Signed (pos 0) (pos 16777216) =
