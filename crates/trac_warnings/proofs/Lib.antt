@@ -12,3 +12,4 @@ pub mod Seen
 pub mod Signs
 pub mod Surplus
 pub mod Rows
+pub mod Unmarked
