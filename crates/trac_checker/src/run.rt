@@ -1,5 +1,6 @@
 //! A run that is watched from its first step to its last.
-ghost use Rattle.std.specs.Prelude.{◌≡◌, ◌++◌, ◌+◌, ◌-◌, ◌^◌, ◌<◌, ◌≤◌, IfOk, None, OnOk, [], length, map, reverse, take};
+ghost use Rattle.std.specs.Prelude.{◌≡◌, ◌++◌, ◌+◌, ◌-◌, ◌^◌, ◌<◌, ◌≤◌, IfOk, None, OnOk, [], length, map};
+ghost use Rattle.std.specs.Prelude.{reverse, take};
 ghost use Rattle.std.specs.List.{flat_map};
 ghost use Rattle.trac_core.specs.Machine.{KeepsLimits, reported_input_failures};
 ghost use Rattle.trac_events.specs.Places.{behind_text, first_place};

@@ -13,3 +13,4 @@ pub mod Seen
 pub mod Signs
 pub mod Surplus
 pub mod Rows
+pub mod Unmarked

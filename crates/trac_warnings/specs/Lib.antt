@@ -18,3 +18,4 @@ pub mod Looked
 pub mod Misspelled
 pub mod StepWarnings
 pub mod Rows
+pub mod Unmarked

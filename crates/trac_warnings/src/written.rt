@@ -6,6 +6,7 @@ ghost use Rattle.trac_warnings.specs.Script.{behind_digits, curly_end, is_number
 ghost use Rattle.trac_warnings.specs.Script.{other_meta};
 ghost use Rattle.trac_warnings.specs.Script.{script_warnings, spelled, spelled_at, reported_behind};
 ghost use Rattle.trac_warnings.specs.Spelling.{spelling_of};
+ghost use Rattle.trac_warnings.specs.Unmarked.{is_unmarked};
 ghost use Rattle.trac_warnings.specs.Watched.{Adds, Kept};
 
 use crate::origin::Origin;
@@ -165,6 +166,39 @@ fn look_at_spelling<A: Allocator + Copy>(
 // behind the head was warned of.
 #[tactic(auto, using(crate::proofs::Keeping::keeping))]
 fn look_at_place<A: Allocator + Copy>(
+    warnings: &mut Vec<Warning<A>, A>,
+    alloc: A,
+    place: usize,
+    text: &[u8],
+    is_reported: bool,
+    is_behind_sign: bool,
+) -> Result<bool, AllocError>
+    ensures kept { Kept warnings.old.items warnings.new.items }
+    ensures said { OnOk result (Warns warnings.old.items warnings.new.items
+        (spelled_at (spelling_of text.now) is_reported is_behind_sign place text.now)) }
+    ensures reported { IfOk result (λ reported. reported ≡
+        reported_behind (spelling_of text.now) is_reported (get_or text.now 0 0)) }
+{
+    if is_unmarked(text) {
+        return Ok(is_reported);
+    }
+    look_at_mark(warnings, alloc, place, text, is_reported, is_behind_sign)
+}
+
+// Whether the head of a text is no colon, number sign or left parenthesis.
+fn is_unmarked(text: &[u8]) -> bool
+    ensures { result ≡ is_unmarked text.now }
+{
+    match *text {
+        [first, ..] => first != b':' && first != b'#' && first != b'(',
+        [] => true,
+    }
+}
+
+// Looks at the head of a text as `look_at_place` does, whatever the head is.
+#[inline(never)]
+#[tactic(auto, using(crate::proofs::Keeping::keeping))]
+fn look_at_mark<A: Allocator + Copy>(
     warnings: &mut Vec<Warning<A>, A>,
     alloc: A,
     place: usize,
