@@ -172,11 +172,11 @@ fn add_run(work: &mut Work, most: u64, hints: &mut RunHints) -> u64
 fn add_run_within(work: &mut Work, reach: u32, hints: &mut RunHints) -> u64
 {
     let before = work.neutral_len();
-    let (count, last) = work.run_to_neutral(reach, KINDS);
-    if last > 0 {
-        hints.no_comma_from = before + last;
+    let run = work.run_to_neutral(reach, KINDS);
+    if run.no_comma_from > 0 {
+        hints.no_comma_from = before + run.no_comma_from;
     }
-    u64::from(count)
+    u64::from(run.len)
 }
 
 /// Adds the ordinary characters at the front of the active string, at most `most`: first it looks how

@@ -60,32 +60,26 @@ impl<W: Write> OutputDevice<W> {
     pub(crate) fn write(&mut self, bytes: &[u8]) -> io::Result<usize>
     {
         self.is_flushed = false;
-        match self.writer.write(bytes) {
-            Ok(0) => {
-                self.failures = self.failures.saturating_add(1);
-                Err(io::Error::from(io::ErrorKind::WriteZero))
-            }
-            Ok(n) => Ok(n),
-            Err(error) => {
-                self.failures = self.failures.saturating_add(1);
-                Err(error)
-            }
+        let written = match self.writer.write(bytes) {
+            Ok(0) => Err(io::Error::from(io::ErrorKind::WriteZero)),
+            answer => answer,
+        };
+        if written.is_err() {
+            self.failures = self.failures.saturating_add(1);
         }
+        written
     }
 
     /// Flushes once, and answers what the writer answers.
     pub(crate) fn flush(&mut self) -> io::Result<()>
     {
-        match self.writer.flush() {
-            Ok(()) => {
-                self.is_flushed = true;
-                Ok(())
-            }
-            Err(error) => {
-                self.failures = self.failures.saturating_add(1);
-                Err(error)
-            }
+        let flushed = self.writer.flush();
+        if flushed.is_ok() {
+            self.is_flushed = true;
+        } else {
+            self.failures = self.failures.saturating_add(1);
         }
+        flushed
     }
 
     /// The number of failed writes and flushes so far.

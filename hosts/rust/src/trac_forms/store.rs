@@ -123,7 +123,9 @@ impl<'a> Work<'a> {
     fn find_among_more(&mut self, a: u32, b: u32) -> Option<FormId>
     {
         self.keep_index();
-        self.find_form(a, b)
+        let form = self.find_named(Part { from: a, to: b })?;
+        self.last = form;
+        Some(FormId(form.number))
     }
 
     // The form whose name stands in a part of neutral, and where it begins. None if no form has that name.
@@ -133,19 +135,6 @@ impl<'a> Work<'a> {
     {
         let finder = FormFinder::new(&self.space, self.count, self.last);
         finder.find_named(part, &mut self.search_cost)
-    }
-
-    // Does what `find` does, by the index if there is one.
-    #[inline(always)]
-    fn find_form(&mut self, a: u32, b: u32) -> Option<FormId>
-    {
-        match self.find_named(Part { from: a, to: b }) {
-            Some(form) => {
-                self.last = form;
-                Some(FormId(form.number))
-            }
-            None => None,
-        }
     }
 
     /// The characters of the form's name, not copied.

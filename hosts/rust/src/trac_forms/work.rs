@@ -1,7 +1,7 @@
 // Generated from crates/trac_forms/src/work.rt by hosts/rust/generate, and never edited.
 //! The strings of a `Work`.
 
-use crate::trac_space::{Cell, Mode, Neutral, Space};
+use crate::trac_space::{Cell, CharacterRun, Mode, Neutral, Space};
 use crate::trac_store::{FIRST_FORM, Located};
 
 // A part of neutral with at least this many characters is copied to active by a call.
@@ -222,10 +222,9 @@ impl<'a> Work<'a> {
 
     /// Moves characters from the front of active to the end of neutral, at most `most`. `table` has a
     /// number for each byte: 0 keeps the character, 1 makes it a comma mark, a higher number ends the run
-    /// before it. Gives the length of the run, and the place in it behind its last comma mark. Needs no
-    /// free cell.
+    /// before it. Gives the run. Needs no free cell.
     #[inline]
-    pub fn run_to_neutral(&mut self, most: u32, table: &[u8]) -> (u32, u32)
+    pub fn run_to_neutral(&mut self, most: u32, table: &[u8]) -> CharacterRun
     {
         self.space.run_to_neutral(most, table)
     }

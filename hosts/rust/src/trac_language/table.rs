@@ -548,6 +548,39 @@ pub fn function_named(first: u8, second: u8) -> Option<Function>
     }
 }
 
+// The row of a function, or a field of it. `$arithmetic` is that of an operation of arithmetic.
+macro_rules! row_of {
+    ($function:ident, $operation:ident => $arithmetic:expr $(, $field:ident)?) => {
+        match $function {
+            Function::ReadString => READ_STRING$(.$field)?,
+            Function::ReadCharacter => READ_CHARACTER$(.$field)?,
+            Function::ChangeMeta => CHANGE_META$(.$field)?,
+            Function::PrintString => PRINT_STRING$(.$field)?,
+            Function::Halt => HALT$(.$field)?,
+            Function::DefineString => DEFINE_STRING$(.$field)?,
+            Function::SegmentString => SEGMENT_STRING$(.$field)?,
+            Function::DeleteDefinition => DELETE_DEFINITION$(.$field)?,
+            Function::DeleteAll => DELETE_ALL$(.$field)?,
+            Function::ListNames => LIST_NAMES$(.$field)?,
+            Function::PrintForm => PRINT_FORM$(.$field)?,
+            Function::CallForm => CALL_FORM$(.$field)?,
+            Function::CallSegment => CALL_SEGMENT$(.$field)?,
+            Function::CallCharacter => CALL_CHARACTER$(.$field)?,
+            Function::CallNumber => CALL_NUMBER$(.$field)?,
+            Function::InitialPart => INITIAL_PART$(.$field)?,
+            Function::CallRestore => CALL_RESTORE$(.$field)?,
+            Function::Equal => EQUAL$(.$field)?,
+            Function::Greater => GREATER$(.$field)?,
+            Function::Arithmetic($operation) => $arithmetic,
+            Function::Union => UNION$(.$field)?,
+            Function::Intersection => INTERSECTION$(.$field)?,
+            Function::Complement => COMPLEMENT$(.$field)?,
+            Function::Shift => SHIFT$(.$field)?,
+            Function::Rotate => ROTATE$(.$field)?,
+        }
+    };
+}
+
 /// The row of a function.
 pub fn facts_of(function: Function) -> Facts
 {
@@ -557,40 +590,14 @@ pub fn facts_of(function: Function) -> Facts
 /// What holds for every call of a function, as its row says. It costs less than the row.
 pub fn traits_of(function: Function) -> Traits
 {
-    row(function).traits
+    row_of!(function, operation => arithmetic(operation).traits, traits)
 }
 
 // The row of a function.
 #[inline(always)]
 fn row(function: Function) -> Facts
 {
-    match function {
-        Function::ReadString => READ_STRING,
-        Function::ReadCharacter => READ_CHARACTER,
-        Function::ChangeMeta => CHANGE_META,
-        Function::PrintString => PRINT_STRING,
-        Function::Halt => HALT,
-        Function::DefineString => DEFINE_STRING,
-        Function::SegmentString => SEGMENT_STRING,
-        Function::DeleteDefinition => DELETE_DEFINITION,
-        Function::DeleteAll => DELETE_ALL,
-        Function::ListNames => LIST_NAMES,
-        Function::PrintForm => PRINT_FORM,
-        Function::CallForm => CALL_FORM,
-        Function::CallSegment => CALL_SEGMENT,
-        Function::CallCharacter => CALL_CHARACTER,
-        Function::CallNumber => CALL_NUMBER,
-        Function::InitialPart => INITIAL_PART,
-        Function::CallRestore => CALL_RESTORE,
-        Function::Equal => EQUAL,
-        Function::Greater => GREATER,
-        Function::Arithmetic(operation) => arithmetic(operation),
-        Function::Union => UNION,
-        Function::Intersection => INTERSECTION,
-        Function::Complement => COMPLEMENT,
-        Function::Shift => SHIFT,
-        Function::Rotate => ROTATE,
-    }
+    row_of!(function, operation => arithmetic(operation))
 }
 
 // The row of an operation of arithmetic.

@@ -4,9 +4,16 @@
 use crate::trac_space::cell::{Cell, are_characters, are_four, are_two, byte_in, is_character};
 use crate::trac_space::copies::BLOCK;
 
+/// A run of characters, each kept or turned into a comma mark: how many they are, and from which of them on
+/// none is a comma mark.
+#[derive(Clone, Copy, Debug)]
+pub struct CharacterRun {
+    pub len: u32,
+    pub no_comma_from: u32,
+}
+
 // Copies characters to a lower place, at most `most`. `table` has a number for each byte: 0 keeps the
-// character, 1 makes it a comma mark, a higher number ends the run before it. Gives the length of the
-// run, and the place in it behind its last comma mark.
+// character, 1 makes it a comma mark, a higher number ends the run before it. Gives the run.
 #[inline]
 pub(crate) fn translate_run(
     cells: &mut [Cell],
@@ -14,10 +21,10 @@ pub(crate) fn translate_run(
     to: usize,
     most: usize,
     table: &[u8],
-) -> (usize, usize)
+) -> CharacterRun
 {
     let mut count = 0;
-    let mut last = 0;
+    let mut no_comma_from = 0;
     while count < most {
         let byte = byte_in(&cells[start + count]);
         let number = table[usize::from(byte)];
@@ -25,13 +32,16 @@ pub(crate) fn translate_run(
             cells[to + count] = Cell::Byte(byte);
         } else if number == 1 {
             cells[to + count] = Cell::Comma;
-            last = count + 1;
+            no_comma_from = count + 1;
         } else {
-            return (count, last);
+            break;
         }
         count += 1;
     }
-    (count, last)
+    CharacterRun {
+        len: count as u32,
+        no_comma_from: no_comma_from as u32,
+    }
 }
 
 // Whether the `n` cells from place `at` on are all characters. Tests eight cells at a time; the last

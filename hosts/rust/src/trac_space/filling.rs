@@ -16,6 +16,13 @@ pub(crate) struct ArgumentTable {
     pub(crate) commas: usize,
 }
 
+// Cells of a block: where they begin, and how many they are.
+#[derive(Clone, Copy, Debug)]
+struct Span {
+    start: usize,
+    len: usize,
+}
+
 /// Lays the places of the comma marks over the first cells, in order, and gives how many they are. None
 /// stands from place `no_comma_from` on.
 #[inline(always)]
@@ -59,12 +66,12 @@ pub(crate) fn fill_cells(
             continue;
         }
         at -= 1;
-        let (start, n) = part_numbered(cells, ordinal_in(cells[at]), given);
-        if n > to - low {
+        let part = part_numbered(cells, ordinal_in(cells[at]), given);
+        if part.len > to - low {
             return None;
         }
-        to -= n;
-        put_untagged(cells, start, to, n, given);
+        to -= part.len;
+        put_untagged(cells, part.start, to, part.len, given);
     }
     fill_each(cells, from, at, low, to, given)
 }
@@ -84,12 +91,12 @@ fn fill_each(
     let mut to = to;
     while from < at {
         at -= 1;
-        let (start, n) = filling_of(cells, at, given);
-        if n > to - low {
+        let filling = filling_of(cells, at, given);
+        if filling.len > to - low {
             return None;
         }
-        to -= n;
-        put_untagged(cells, start, to, n, given);
+        to -= filling.len;
+        put_untagged(cells, filling.start, to, filling.len, given);
     }
     Some(to)
 }
@@ -129,29 +136,34 @@ fn distance(start: usize, to: usize) -> usize
     (to - start) as u32 as usize
 }
 
-// Where the cells begin that stand for the one at place `at`, and how many they are: a character stands
-// for itself, the part of its ordinal for a gap.
+// The cells that stand for the one at place `at`: a character stands for itself, the part of its ordinal
+// for a gap.
 #[inline]
-fn filling_of(cells: &[Cell], at: usize, given: ArgumentTable) -> (usize, usize)
+fn filling_of(cells: &[Cell], at: usize, given: ArgumentTable) -> Span
 {
     if is_character(&cells[at]) {
-        return (at, 1);
+        return Span { start: at, len: 1 };
     }
     part_numbered(cells, ordinal_in(cells[at]), given)
 }
 
-// Where the part of this number, from 1, begins, and how many cells it has: none if there is no such
-// part.
+// The cells of the part of this number, from 1: none if there is no such part.
 #[inline(always)]
-fn part_numbered(cells: &[Cell], number: u32, given: ArgumentTable) -> (usize, usize)
+fn part_numbered(cells: &[Cell], number: u32, given: ArgumentTable) -> Span
 {
     let place = number.wrapping_sub(1) as usize;
     if place > given.commas {
-        return (given.start, 0);
+        return Span {
+            start: given.start,
+            len: 0,
+        };
     }
     let from = part_begin(cells, place, given);
     let end = part_end(cells, place, given);
-    (given.start + from, end - from)
+    Span {
+        start: given.start + from,
+        len: end - from,
+    }
 }
 
 // Where the part behind `place` comma marks begins, counted from the first of the given cells.

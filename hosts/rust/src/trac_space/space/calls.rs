@@ -3,6 +3,7 @@
 
 use super::Space;
 use crate::trac_space::cell::{Cell, frame_link, is_comma, mode};
+use crate::trac_space::part::Part;
 use crate::trac_language::Mode;
 
 impl<'a> Space<'a> {
@@ -55,7 +56,10 @@ impl<'a> Space<'a> {
     {
         let start = self.store as usize;
         let stop = (self.store + self.neutral) as usize;
-        argument_in(&self.cells[start..stop], call, end, k)
+        match argument_in(&self.cells[start..stop], call, end, k) {
+            Some(part) => Some((part.from, part.to)),
+            None => None,
+        }
     }
 }
 
@@ -103,20 +107,24 @@ fn count_commas(cells: &[Cell]) -> u32
     cells.iter().filter(|cell| is_comma(*cell)).count() as u32
 }
 
-// Where argument `k`, from 0, of the call from `call` up to `end` begins and ends. None if the call has no
-// such argument.
-fn argument_in(neutral: &[Cell], call: u32, end: u32, k: u32) -> Option<(u32, u32)>
+// The cells of argument `k`, from 0, of the call from `call` up to `end`. None if the call has no such
+// argument.
+fn argument_in(neutral: &[Cell], call: u32, end: u32, k: u32) -> Option<Part>
 {
     let mut number = 0;
     let mut from = call + 1;
     for to in call + 1..end {
         if is_comma(&neutral[to as usize]) {
             if number == k {
-                return Some((from, to));
+                return Some(Part { from, to });
             }
             number += 1;
             from = to + 1;
         }
     }
-    if number == k { Some((from, end)) } else { None }
+    if number == k {
+        Some(Part { from, to: end })
+    } else {
+        None
+    }
 }

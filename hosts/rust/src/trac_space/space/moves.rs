@@ -3,7 +3,7 @@
 
 use super::Space;
 use crate::trac_space::cell::Cell;
-use crate::trac_space::character_runs::translate_run;
+use crate::trac_space::character_runs::{CharacterRun, translate_run};
 use crate::trac_space::copies::{copy_cells, copy_mostly_apart};
 
 impl<'a> Space<'a> {
@@ -35,16 +35,16 @@ impl<'a> Space<'a> {
 
     /// Moves characters from the front of active to the end of neutral, at most `most`. `table` has a
     /// number for each byte: 0 keeps the character, 1 makes it a comma mark, a higher number ends the run
-    /// before it. Gives the length of the run, and the place in it behind its last comma mark.
+    /// before it. Gives the run.
     #[inline]
-    pub fn run_to_neutral(&mut self, most: u32, table: &[u8]) -> (u32, u32)
+    pub fn run_to_neutral(&mut self, most: u32, table: &[u8]) -> CharacterRun
     {
         let start = (self.end - self.active) as usize;
         let to = (self.store + self.neutral) as usize;
-        let (count, last) = translate_run(self.cells, start, to, most as usize, table);
-        self.neutral += count as u32;
-        self.active -= count as u32;
-        (count as u32, last as u32)
+        let run = translate_run(self.cells, start, to, most as usize, table);
+        self.neutral += run.len;
+        self.active -= run.len;
+        run
     }
 
     /// Removes the first `n` cells of active, one or more, and appends `cell` to neutral for them. Needs
