@@ -4,7 +4,7 @@
  * and what compilers make of it (memcpy, memset) alone.
  *
  * Crates: trac_language trac_space trac_values trac_store trac_forms trac_devices trac_functions trac_laws trac_core trac_image trac_events trac_warnings trac_lent trac_views trac_tracer trac_checker trac_c
- * Sources: ab99b3badbc997298a441b219d49fb4ce227dfdb6b38c872cb1d497183df0369
+ * Sources: 1543568f6dc4894064d33bc29a95791b2d8b338230fee3008a9e6a745d9aa9dd
  * Kit: rattle-kit-13f logic dac8208d650f15bf
  * Tools: wasm-opt version 108, wabt 1.0.32
  */
@@ -198,21 +198,23 @@ HELPER u32 rem32_u(u32 a, u32 b) {
     return a % b;
 }
 /* Instructions:
- * block 2545, br 1906, br_if 4158, br_table 108, call 1096, drop 146, else 189, end 5792, global.get 288, global.set
- * 419, i32.add 1202, i32.and 666, i32.clz 2, i32.const 5543, i32.div_u 8, i32.eq 748, i32.eqz 1008, i32.extend8_s 1,
- * i32.ge_s 2, i32.ge_u 150, i32.gt_s 9, i32.gt_u 226, i32.le_u 50, i32.load 1543, i32.load16_u 204, i32.load8_s 22,
- * i32.load8_u 2613, i32.lt_s 14, i32.lt_u 228, i32.mul 25, i32.ne 626, i32.or 417, i32.rem_u 1, i32.shl 181,
- * i32.shr_u 66, i32.store 956, i32.store16 405, i32.store8 865, i32.sub 782, i32.wrap_i64 237, i32.xor 19, i64.add
- * 13915, i64.and 608, i64.clz 11, i64.const 20585, i64.div_s 2, i64.div_u 16, i64.eq 384, i64.eqz 1167,
- * i64.extend_i32_u 1061, i64.ge_s 272, i64.ge_u 250, i64.gt_u 507, i64.le_s 10, i64.le_u 278, i64.load 7190,
- * i64.load16_u 29, i64.load32_u 160, i64.load8_u 178, i64.lt_s 26, i64.lt_u 435, i64.mul 298, i64.ne 1135, i64.or 71,
- * i64.rem_u 39, i64.shl 1841, i64.shr_s 9, i64.shr_u 115, i64.store 6464, i64.store16 17, i64.store32 13, i64.store8
- * 22, i64.sub 2992, i64.xor 43, if 2361, local.get 43318, local.set 10005, local.tee 8294, loop 886, memory.copy 256,
- * memory.fill 55, return 262, select 946, unreachable 292
+ * block 2581, br 1937, br_if 4157, br_table 109, call 1097, drop 149, else 189, end 5835, global.get 290, global.set
+ * 421, i32.add 1202, i32.and 661, i32.clz 2, i32.const 5666, i32.div_u 8, i32.eq 752, i32.eqz 1006, i32.extend8_s 1,
+ * i32.ge_s 2, i32.ge_u 150, i32.gt_s 9, i32.gt_u 226, i32.le_u 50, i32.load 1543, i32.load16_u 207, i32.load8_s 22,
+ * i32.load8_u 2612, i32.lt_s 14, i32.lt_u 228, i32.mul 25, i32.ne 629, i32.or 416, i32.rem_u 1, i32.shl 181,
+ * i32.shr_u 65, i32.store 974, i32.store16 430, i32.store8 901, i32.sub 783, i32.wrap_i64 238, i32.xor 19, i64.add
+ * 13915, i64.and 610, i64.clz 11, i64.const 20626, i64.div_s 2, i64.div_u 16, i64.eq 383, i64.eqz 1169,
+ * i64.extend_i32_u 1062, i64.ge_s 274, i64.ge_u 252, i64.gt_u 507, i64.le_s 10, i64.le_u 278, i64.load 7190,
+ * i64.load16_u 29, i64.load32_u 160, i64.load8_u 179, i64.lt_s 26, i64.lt_u 434, i64.mul 298, i64.ne 1136, i64.or 71,
+ * i64.rem_u 39, i64.shl 1842, i64.shr_s 9, i64.shr_u 115, i64.store 6506, i64.store16 17, i64.store32 13, i64.store8
+ * 22, i64.sub 2995, i64.xor 43, if 2368, local.get 43425, local.set 10063, local.tee 8300, loop 886, memory.copy 256,
+ * memory.fill 41, return 261, select 946, unreachable 294
  */
 
 #ifdef TRAC_UNIT
 #define tables trac_unit_tables
+#define language_table_facts_of trac_unit_language_table_facts_of
+#define language_table_traits_of trac_unit_language_table_traits_of
 #define space_byte_writing_write_many trac_unit_space_byte_writing_write_many
 #define space_copies_copy_long trac_unit_space_copies_copy_long
 #define space_space_Space_try_reserve_without_index trac_unit_space_space_Space_try_reserve_without_index
@@ -237,13 +239,13 @@ HELPER u32 rem32_u(u32 a, u32 b) {
 #define forms_work_Work_load_other_part trac_unit_forms_work_Work_load_other_part
 #define forms_work_Work_active_to_neutral trac_unit_forms_work_Work_active_to_neutral
 #define functions_arguments_Arguments_next trac_unit_functions_arguments_Arguments_next
+#define functions_arguments_put_part trac_unit_functions_arguments_put_part
 #define functions_arithmetic_arithmetic trac_unit_functions_arithmetic_arithmetic
 #define functions_bit_strings_union trac_unit_functions_bit_strings_union
 #define functions_bit_strings_intersection trac_unit_functions_bit_strings_intersection
 #define functions_bit_strings_complement trac_unit_functions_bit_strings_complement
 #define functions_bit_strings_shift trac_unit_functions_bit_strings_shift
 #define functions_bit_strings_rotate trac_unit_functions_bit_strings_rotate
-#define functions_bit_strings_give_bits trac_unit_functions_bit_strings_give_bits
 #define functions_comparing_equal trac_unit_functions_comparing_equal
 #define functions_comparing_greater trac_unit_functions_comparing_greater
 #define functions_form_calls_define_string trac_unit_functions_form_calls_define_string
@@ -274,37 +276,39 @@ HELPER u32 rem32_u(u32 a, u32 b) {
 #define core_scan_protect trac_unit_core_scan_protect
 #define core_streaming_read_text trac_unit_core_streaming_read_text
 #define warnings_arguments_look_at_arguments trac_unit_warnings_arguments_look_at_arguments
-#define warnings_bodies_provides trac_unit_warnings_bodies_provides
-#define warnings_bodies_look_at_called trac_unit_warnings_bodies_look_at_called
 #define warnings_findings_Findings_add trac_unit_warnings_findings_Findings_add
-#define warnings_findings_count trac_unit_warnings_findings_count
-#define warnings_operands_look_at_numbers trac_unit_warnings_operands_look_at_numbers
-#define warnings_performed_look_at_call trac_unit_warnings_performed_look_at_call
-#define warnings_performed_suspicion_of_call trac_unit_warnings_performed_suspicion_of_call
+#define warnings_operands_look_at_both trac_unit_warnings_operands_look_at_both
 #define warnings_performed_warn trac_unit_warnings_performed_warn
 #define warnings_performed_characters_of trac_unit_warnings_performed_characters_of
-#define warnings_watch_Watch_origin_of_argument trac_unit_warnings_watch_Watch_origin_of_argument
+#define warnings_watch_Watch_warn_of_rule trac_unit_warnings_watch_Watch_warn_of_rule
+#define warnings_watch_Watch_look_at_end_of_call trac_unit_warnings_watch_Watch_look_at_end_of_call
+#define warnings_watch_Watch_warn_of_ends trac_unit_warnings_watch_Watch_warn_of_ends
+#define warnings_watch_Watch_warn_of_read trac_unit_warnings_watch_Watch_warn_of_read
+#define warnings_written_look_at_script trac_unit_warnings_written_look_at_script
 #define checker_run_watched trac_unit_checker_run_watched
 #define checker_run_add_fault trac_unit_checker_run_add_fault
+#define checker_run_add_names trac_unit_checker_run_add_names
 #define engine_define trac_unit_engine_define
 #define engine_define_text trac_unit_engine_define_text
 #define engine_delete trac_unit_engine_delete
 #define engine_delete_all trac_unit_engine_delete_all
+#define engine_check trac_unit_engine_check
 #define c_devices_OverflowSinkSink_put_all trac_unit_c_devices_OverflowSinkSink_put_all
 #define c_forms_lay_shown trac_unit_c_forms_lay_shown
 #define engine_function_count trac_unit_engine_function_count
 #define engine_function_fact trac_unit_engine_function_fact
+#define engine_function_text trac_unit_engine_function_text
 #define engine_answer trac_unit_engine_answer
 #define engine_load trac_unit_engine_load
 #define engine_machine_size trac_unit_engine_machine_size
 #define engine_cell_size trac_unit_engine_cell_size
 #define engine_turn trac_unit_engine_turn
-#define engine_turn_to_form trac_unit_engine_turn_to_form
 #define engine_skip_print trac_unit_engine_skip_print
 #define engine_run trac_unit_engine_run
+#define engine_trace_step trac_unit_engine_trace_step
 #define c_turn_take_turn trac_unit_c_turn_take_turn
-#define engine_form_name trac_unit_engine_form_name
 #define engine_form_text trac_unit_engine_form_text
+#define engine_form_codes trac_unit_engine_form_codes
 #define engine_form_pointer trac_unit_engine_form_pointer
 #define engine_argument_count trac_unit_engine_argument_count
 #define engine_argument trac_unit_engine_argument
@@ -312,20 +316,18 @@ HELPER u32 rem32_u(u32 a, u32 b) {
 #define engine_takes trac_unit_engine_takes
 #define engine_drops trac_unit_engine_drops
 #define engine_steps_to_call trac_unit_engine_steps_to_call
-#define engine_rule trac_unit_engine_rule
 #define engine_awaits trac_unit_engine_awaits
 #define engine_run_zeroed trac_unit_engine_run_zeroed
 #define bumpalo_bump_Bump_alloc_layout_slow trac_unit_bumpalo_bump_Bump_alloc_layout_slow
 #define core_alloc_RefAllocator_grow trac_unit_core_alloc_RefAllocator_grow
 #define core_slice_reads_slice_T_contains trac_unit_core_slice_reads_slice_T_contains
 #define itoa_Buffer_format2 trac_unit_itoa_Buffer_format2
+#define std_alloc_vec_Vec_grow_amortized2 trac_unit_std_alloc_vec_Vec_grow_amortized2
 #define std_alloc_vec_Vec_grow_amortized3 trac_unit_std_alloc_vec_Vec_grow_amortized3
 #define std_alloc_vec_Vec_grow_amortized4 trac_unit_std_alloc_vec_Vec_grow_amortized4
 #define std_alloc_vec_Vec_grow_amortized5 trac_unit_std_alloc_vec_Vec_grow_amortized5
-#define std_alloc_vec_Vec_grow_amortized6 trac_unit_std_alloc_vec_Vec_grow_amortized6
 #define std_alloc_vec_Vec_remove2 trac_unit_std_alloc_vec_Vec_remove2
 #define std_alloc_vec_lodged_Vec_T_Lodged_insert_reserved4 trac_unit_std_alloc_vec_lodged_Vec_T_Lodged_insert_reserved4
-#define std_collections_btree_node_parts_Parts_new2 trac_unit_std_collections_btree_node_parts_Parts_new2
 #define std_collections_btree_row_Row_reverse trac_unit_std_collections_btree_row_Row_reverse
 #define std_collections_btree_row_Row_reverse2 trac_unit_std_collections_btree_row_Row_reverse2
 #define std_collections_btree_row_Row_reverse_i64 trac_unit_std_collections_btree_row_Row_reverse_i64
@@ -674,15 +676,7 @@ const u8 tables[9344] = {
     32, 115, 116, 101, 112, 32, 32, 102, 111, 114, 109, 10, 32, 32, 115, 116, 101, 112, 32, 32, 114, 117, 108, 101,
     32, 32, 32, 32, 32, 32, 32, 32, 32, 32, 32, 115, 105, 122, 101, 32, 32, 110, 101, 101, 100, 32, 32, 110,
     101, 117, 116, 114, 97, 108, 32, 115, 116, 114, 105, 110, 103, 124, 97, 99, 116, 105, 118, 101, 32, 115, 116, 114,
-    105, 110, 103, 10, 10, 32, 32, 32, 32, 32, 32, 32, 32, 32, 32, 0, 60, 0, 0, 0, 0, 0, 0, 0,
-    50, 0, 0, 0, 0, 0, 0, 0, 64, 0, 0, 0, 0, 0, 0, 0, 63, 0, 0, 0, 0, 0, 0, 0,
-    92, 18, 0, 0, 0, 0, 0, 0, 170, 18, 0, 0, 0, 0, 0, 0, 238, 18, 0, 0, 0, 0, 0, 0,
-    62, 19, 0, 0, 0, 0, 0, 0, 3, 0, 0, 0, 0, 0, 0, 0, 8, 0, 0, 0, 0, 0, 0, 0,
-    8, 0, 0, 0, 0, 0, 0, 0, 6, 0, 0, 0, 0, 0, 0, 0, 89, 18, 0, 0, 0, 0, 0, 0,
-    162, 18, 0, 0, 0, 0, 0, 0, 230, 18, 0, 0, 0, 0, 0, 0, 56, 19, 0, 0, 0, 0, 0, 0,
-    81, 18, 0, 0, 0, 0, 0, 0, 154, 18, 0, 0, 0, 0, 0, 0, 222, 18, 0, 0, 0, 0, 0, 0,
-    48, 19, 0, 0, 0, 0, 0, 0, 79, 18, 0, 0, 0, 0, 0, 0, 152, 18, 0, 0, 0, 0, 0, 0,
-    220, 18, 0, 0, 0, 0, 0, 0, 46, 19, 0, 0, 0, 0, 0, 0, 42, 0, 0, 0, 0, 0, 0, 0,
+    105, 110, 103, 10, 10, 32, 32, 32, 32, 32, 32, 32, 32, 32, 32, 0, 42, 0, 0, 0, 0, 0, 0, 0,
     81, 0, 0, 0, 0, 0, 0, 0, 54, 0, 0, 0, 0, 0, 0, 0, 34, 0, 0, 0, 0, 0, 0, 0,
     49, 0, 0, 0, 0, 0, 0, 0, 27, 0, 0, 0, 0, 0, 0, 0, 68, 0, 0, 0, 0, 0, 0, 0,
     25, 0, 0, 0, 0, 0, 0, 0, 25, 0, 0, 0, 0, 0, 0, 0, 54, 0, 0, 0, 0, 0, 0, 0,
@@ -712,7 +706,15 @@ const u8 tables[9344] = {
     71, 28, 0, 0, 0, 0, 0, 0, 223, 19, 0, 0, 0, 0, 0, 0, 13, 20, 0, 0, 0, 0, 0, 0,
     55, 20, 0, 0, 0, 0, 0, 0, 100, 20, 0, 0, 0, 0, 0, 0, 153, 20, 0, 0, 0, 0, 0, 0,
     206, 20, 0, 0, 0, 0, 0, 0, 239, 20, 0, 0, 0, 0, 0, 0, 38, 21, 0, 0, 0, 0, 0, 0,
-    56, 21, 0, 0, 0, 0, 0, 0, 85, 21, 0, 0, 0, 0, 0, 0, 79, 29, 0, 0, 0, 0, 0, 0,
+    56, 21, 0, 0, 0, 0, 0, 0, 85, 21, 0, 0, 0, 0, 0, 0, 60, 0, 0, 0, 0, 0, 0, 0,
+    50, 0, 0, 0, 0, 0, 0, 0, 64, 0, 0, 0, 0, 0, 0, 0, 63, 0, 0, 0, 0, 0, 0, 0,
+    92, 18, 0, 0, 0, 0, 0, 0, 170, 18, 0, 0, 0, 0, 0, 0, 238, 18, 0, 0, 0, 0, 0, 0,
+    62, 19, 0, 0, 0, 0, 0, 0, 3, 0, 0, 0, 0, 0, 0, 0, 8, 0, 0, 0, 0, 0, 0, 0,
+    8, 0, 0, 0, 0, 0, 0, 0, 6, 0, 0, 0, 0, 0, 0, 0, 89, 18, 0, 0, 0, 0, 0, 0,
+    162, 18, 0, 0, 0, 0, 0, 0, 230, 18, 0, 0, 0, 0, 0, 0, 56, 19, 0, 0, 0, 0, 0, 0,
+    81, 18, 0, 0, 0, 0, 0, 0, 154, 18, 0, 0, 0, 0, 0, 0, 222, 18, 0, 0, 0, 0, 0, 0,
+    48, 19, 0, 0, 0, 0, 0, 0, 79, 18, 0, 0, 0, 0, 0, 0, 152, 18, 0, 0, 0, 0, 0, 0,
+    220, 18, 0, 0, 0, 0, 0, 0, 46, 19, 0, 0, 0, 0, 0, 0, 79, 29, 0, 0, 0, 0, 0, 0,
     92, 29, 0, 0, 0, 0, 0, 0, 105, 29, 0, 0, 0, 0, 0, 0, 118, 29, 0, 0, 0, 0, 0, 0,
     131, 29, 0, 0, 0, 0, 0, 0, 144, 29, 0, 0, 0, 0, 0, 0, 157, 29, 0, 0, 0, 0, 0, 0,
     170, 29, 0, 0, 0, 0, 0, 0, 183, 29, 0, 0, 0, 0, 0, 0, 14, 0, 0, 0, 0, 0, 0, 0,
@@ -735,9 +737,9 @@ const u8 tables[9344] = {
 /* Whether so many bytes behind the beginning of the tables have one of an address. */
 APART int is_in_row(word offset, word count) {
     return (count && offset + (count - 1) - 7624u < 7u + count) ||
-        (count && offset + (count - 1) - 8088u < 31u + count) ||
-        (count && offset + (count - 1) - 8152u < 95u + count) ||
-        (count && offset + (count - 1) - 8608u < 431u + count) ||
+        (count && offset + (count - 1) - 8416u < 359u + count) ||
+        (count && offset + (count - 1) - 8808u < 31u + count) ||
+        (count && offset + (count - 1) - 8872u < 167u + count) ||
         (count && offset + (count - 1) - 9064u < 23u + count) ||
         (count && offset + (count - 1) - 9120u < 79u + count) ||
         (count && offset + (count - 1) - 9296u < 47u + count);
@@ -761,23 +763,27 @@ HELPER u64 table64(word place) {
     return TABLES + load_word(place);
 }
 
-#if UNITS & 0x12
+#if UNITS & 0x10
 static INLINE void language_table_function_at(word result, u64 k);
 #endif
 
-#if UNITS & 0xf2
-static INLINE void language_table_row(word a1, u32 a2, u32 a3);
+#if UNITS & 0x51
+INTERNAL void language_table_facts_of(word a1, u32 a2, u32 a3);
+#endif
+
+#if UNITS & 0xe0
+INTERNAL void language_table_traits_of(word result, u32 function);
 #endif
 
 #if UNITS & 0x5
 static INLINE u64 space_byte_search_count_before(u32 stop, word text, u64 text_len);
 #endif
 
-#if UNITS & 0x7d
+#if UNITS & 0xdd
 INTERNAL void space_byte_writing_write_many(word a1, word a2, u64 a3);
 #endif
 
-#if UNITS & 0x5d
+#if UNITS & 0x9f
 INTERNAL void space_copies_copy_long(word a1, word a2, u64 a3, u64 a4);
 #endif
 
@@ -791,11 +797,11 @@ static void space_filling_fill_each(word a1, word a2, word a3, u64 a4, word a5, 
 static INLINE void space_filling_put_untagged(word cells, u64 cells_len, word start, u64 to, u64 n, u64 given);
 #endif
 
-#if UNITS & 0x7d
+#if UNITS & 0xdd
 INTERNAL u32 space_space_Space_try_reserve_without_index(word self, u64 n);
 #endif
 
-#if UNITS & 0x1d
+#if UNITS & 0x1f
 INTERNAL void space_space_Space_drop_index_area(word self);
 #endif
 
@@ -803,7 +809,7 @@ INTERNAL void space_space_Space_drop_index_area(word self);
 static void space_space_Space_move_active(word self, u32 n);
 #endif
 
-#if UNITS & 0x4d
+#if UNITS & 0x8d
 INTERNAL u32 space_space_Space_push_over_index(word self, word cell);
 #endif
 
@@ -816,7 +822,7 @@ INTERNAL void space_space_Space_remove_store(word self, u32 a, u32 b);
 static void space_space_Space_write_part(word self, u32 at, u32 a, u32 b);
 #endif
 
-#if UNITS & 0x5
+#if UNITS & 0x9
 static INLINE void values_bit_string_shifted_digit(word result, word digits, u64 digits_len, u32 by_negative, u32
     by_size, u32 k);
 static INLINE void values_bit_string_rotated_digit(word result, word digits, u64 digits_len, u32 by, u32 k);
@@ -843,16 +849,16 @@ static INLINE u32 store_arguments_before_far_comma(word cells, u64 cells_len);
 static INLINE void store_borders_tag_borders(word space, u32 part_from, u32 part_to);
 #endif
 
-#if UNITS & 0x19
+#if UNITS & 0x1b
 static INLINE void store_form_cells_find_between_by_call(word a1, word a2, u32 a3, u32 a4, u32 a5, word a6, u64 a7);
 INTERNAL void store_form_cells_find_from_last(word a1, word a2, u32 a3, u32 a4, u32 a5, word a6, u64 a7);
 #endif
 
-#if UNITS & 0x4d
+#if UNITS & 0x8f
 INTERNAL void store_item_copies_load_items_over_index(word result, word space, u32 items_from, u32 items_to);
 #endif
 
-#if UNITS & 0x5d
+#if UNITS & 0x9d
 INTERNAL void store_item_copies_fill_gaps(word result, word space, u32 items_from, u32 items_to, u32 texts_from, u32
     texts_to, u32 no_comma_from);
 #endif
@@ -865,7 +871,7 @@ static u32 forms_work_Work_copy_body(word self, u32 form, u32 a, u32 b);
 INTERNAL void forms_work_Work_remove(word self, u32 form_number, u32 form_start);
 #endif
 
-#if UNITS & 0x5d
+#if UNITS & 0x9d
 INTERNAL void forms_work_Work_delete_all(word self);
 #endif
 
@@ -889,7 +895,7 @@ static u32 forms_index_index_fitting(word space, u32 count);
 INTERNAL void forms_index_index_worthwhile(word space, u32 count, word search_cost);
 #endif
 
-#if UNITS & 0x57
+#if UNITS & 0x9f
 static INLINE void forms_work_Work_stored(word result, word self, u32 form);
 #endif
 
@@ -901,15 +907,15 @@ INTERNAL u32 forms_work_Work_delete_by_name(word self, word name, u64 name_len);
 static INLINE void forms_work_Work_next_char(word result, word self, u32 form, u32 from);
 #endif
 
-#if UNITS & 0x4d
+#if UNITS & 0x8d
 static INLINE u32 forms_work_Work_place_of(word self, u32 k);
 #endif
 
-#if UNITS & 0xd
+#if UNITS & 0x7
 static INLINE void forms_work_Work_form(word result, word self, u32 k);
 #endif
 
-#if UNITS & 0x5d
+#if UNITS & 0x9d
 INTERNAL void forms_work_Work_find_among_few(word result, word self, u32 a, u32 b);
 INTERNAL void forms_work_Work_find_among_more(word result, word self, u32 a, u32 b);
 #endif
@@ -919,7 +925,7 @@ static INLINE u32 forms_work_Work_body_len(word self, u32 form);
 static INLINE u32 forms_work_Work_pointer(word self, u32 form);
 #endif
 
-#if UNITS & 0x65
+#if UNITS & 0xc5
 static INLINE void forms_work_Work_cut_neutral(word self, u32 n);
 #endif
 
@@ -931,7 +937,7 @@ static void forms_work_Work_drop_neutral(word self, u32 a, u32 b);
 INTERNAL u32 forms_work_Work_load_other_part(word self, u32 a, u32 b);
 #endif
 
-#if UNITS & 0x7d
+#if UNITS & 0xd5
 INTERNAL void forms_work_Work_active_to_neutral(word self, u32 n);
 #endif
 
@@ -939,15 +945,15 @@ INTERNAL void forms_work_Work_active_to_neutral(word self, u32 n);
 static void devices_slice_source_SliceSourceSource_take_held(word self, u32 stop, word neutral);
 #endif
 
-#if UNITS & 0x5d
+#if UNITS & 0x9d
 INTERNAL void functions_arguments_Arguments_next(word result, word self, word work);
 #endif
 
-#if UNITS & 0x5
-static u32 functions_arguments_put_part(word work, u32 part_from, u32 part_to);
+#if UNITS & 0xd
+INTERNAL u32 functions_arguments_put_part(word work, u32 part_from, u32 part_to);
 #endif
 
-#if UNITS & 0x4d
+#if UNITS & 0x8d
 INTERNAL void functions_arithmetic_arithmetic(word result, word work, u32 operation, word arguments);
 #endif
 
@@ -956,7 +962,7 @@ static void functions_arithmetic_long_arithmetic(word result, word work, u32 ope
     u32 second_from, u32 second_to, u32 other_from, u32 other_to, u32 scanned);
 #endif
 
-#if UNITS & 0x4d
+#if UNITS & 0x8d
 INTERNAL void functions_bit_strings_union(word result, word work, word arguments);
 INTERNAL void functions_bit_strings_intersection(word result, word work, word arguments);
 INTERNAL void functions_bit_strings_complement(word result, word work, word arguments);
@@ -964,20 +970,20 @@ INTERNAL void functions_bit_strings_shift(word result, word work, word arguments
 INTERNAL void functions_bit_strings_rotate(word result, word work, word arguments);
 #endif
 
-#if UNITS & 0xd
-INTERNAL void functions_bit_strings_give_bits(word a1, word a2, u32 a3, u32 a4, word a5);
+#if UNITS & 0x9
+static void functions_bit_strings_give_bits(word a1, word a2, u32 a3, u32 a4, word a5);
 #endif
 
-#if UNITS & 0x4d
+#if UNITS & 0x8d
 INTERNAL void functions_comparing_equal(word result, word work, word arguments);
 INTERNAL void functions_comparing_greater(word result, word work, word arguments);
 #endif
 
-#if UNITS & 0x5d
+#if UNITS & 0x9d
 INTERNAL void functions_form_calls_define_string(word result, word work, word arguments);
 #endif
 
-#if UNITS & 0x4d
+#if UNITS & 0x8d
 INTERNAL void functions_form_calls_segment_string(word result, word work, word arguments);
 INTERNAL void functions_form_calls_list_names(word result, word work, word arguments);
 INTERNAL void functions_form_calls_delete_definition(word result, word work, word arguments);
@@ -990,24 +996,24 @@ INTERNAL void functions_form_parts_call_number(word result, word work, word argu
 static void functions_form_parts_take_part(word result, word work, u32 form, u32 part_from, u32 part_to, u32 pointer);
 #endif
 
-#if UNITS & 0x4d
+#if UNITS & 0x8d
 INTERNAL void functions_form_parts_initial_part(word result, word work, word arguments);
 INTERNAL void functions_form_parts_call_restore(word result, word work, word arguments);
 #endif
 
-#if UNITS & 0xfd
+#if UNITS & 0xf5
 INTERNAL void functions_function_function_of(word result, word first, word second);
 #endif
 
-#if UNITS & 0x35
+#if UNITS & 0x59
 INTERNAL void core_call_answer(word a1, word a2, word a3, u32 a4, u32 a5, word a6, word a7, word a8);
 #endif
 
-#if UNITS & 0x7d
+#if UNITS & 0xdd
 INTERNAL void core_delivery_deliver(word work, u32 place, u32 from);
 #endif
 
-#if UNITS & 0x40
+#if UNITS & 0x80
 static u32 core_display_show_items(word form, u32 from, u32 to);
 #endif
 
@@ -1015,12 +1021,15 @@ static u32 core_display_show_items(word form, u32 from, u32 to);
 static u32 core_display_show_items2(word form, u32 from, u32 to, word sink);
 #endif
 
-#if UNITS & 0x7
+#if UNITS & 0x19
 INTERNAL u32 core_display_show_items3(word form, u32 from, u32 to, word sink);
+#endif
+
+#if UNITS & 0x15
 INTERNAL u32 core_display_show_items4(word form, u32 from, u32 to, word sink);
 #endif
 
-#if UNITS & 0x20
+#if UNITS & 0x40
 static u32 core_display_show_items5(word form, u32 from, u32 to, word sink);
 #endif
 
@@ -1028,11 +1037,11 @@ static u32 core_display_show_items5(word form, u32 from, u32 to, word sink);
 static INLINE u32 core_display_display_len(word form);
 #endif
 
-#if UNITS & 0x1d
+#if UNITS & 0x15
 INTERNAL void core_idling_begin_idling(word work);
 #endif
 
-#if UNITS & 0x4d
+#if UNITS & 0x85
 INTERNAL void core_machine_advancing_go_on(word result, word work, word meta, u32 no_comma_from, word at, u64 most, u32
     performer);
 #endif
@@ -1053,15 +1062,15 @@ static void core_machine_Machine_argument(word result, word self, u32 which);
 INTERNAL u32 core_machine_printing_call_len(word work, u32 call_place, u32 call_no_comma_from);
 #endif
 
-#if UNITS & 0xf5
+#if UNITS & 0x67
 INTERNAL void core_machine_Machine_form_named(word result, word self, word name, u64 name_len);
 #endif
 
-#if UNITS & 0x75
+#if UNITS & 0xd5
 INTERNAL void core_machine_Machine_next_function(word result, word self);
 #endif
 
-#if UNITS & 0x70
+#if UNITS & 0xc2
 static INLINE u32 core_machine_Machine_next_rule(word self);
 #endif
 
@@ -1074,15 +1083,15 @@ INTERNAL void core_read_in_place_scan_string(word result, word work, u64 most);
 static INLINE u32 core_runs_ordinary_run(word cells, u64 cells_len, u64 known);
 #endif
 
-#if UNITS & 0x71
+#if UNITS & 0xd1
 INTERNAL void core_runs_matching(word result, word cells, u64 cells_len);
 #endif
 
-#if UNITS & 0x75
+#if UNITS & 0xd5
 INTERNAL void core_scan_scan_once(word result, word work, u32 no_comma_from);
 #endif
 
-#if UNITS & 0x19
+#if UNITS & 0x15
 INTERNAL u64 core_scan_add_characters(word work, u64 most, word hints);
 static INLINE u64 core_scan_begin_argument(word work, u64 most, word hints);
 #endif
@@ -1092,11 +1101,11 @@ static INLINE u64 core_scan_add_run_within(void);
 static u64 core_scan_add_long_run(word work, u64 most);
 #endif
 
-#if UNITS & 0x19
+#if UNITS & 0x15
 INTERNAL void core_scan_protect(word work);
 #endif
 
-#if UNITS & 0x45
+#if UNITS & 0x8d
 INTERNAL u32 core_streaming_read_text(word work, u32 meta, word source);
 #endif
 
@@ -1105,87 +1114,70 @@ static void image_reading_heads_of(word result, word text, u64 text_len);
 static void image_reading_behind_form(word result, u64 text, u64 text_len);
 #endif
 
-#if UNITS & 0x40
+#if UNITS & 0x20
 static INLINE void events_call_argument(word result, u64 arguments, u64 arguments_len);
 #endif
 
 #if UNITS & 0x60
 INTERNAL u32 warnings_arguments_look_at_arguments(word warnings, u64 alloc, word form, word ending);
-#endif
-
-#if UNITS & 0x80
 static INLINE void warnings_blanks_before_last_blanks(word result, u64 cells, u64 cells_len);
-static u32 warnings_bodies_look_at_body(word a1, u64 a2, u32 a3, u32 a4, word a5, word a6);
-#endif
-
-#if UNITS & 0xc0
-INTERNAL u32 warnings_bodies_provides(u32 a1, u32 a2, word a3);
-INTERNAL u32 warnings_bodies_look_at_called(word warnings, u64 alloc, word form, word ending);
-#endif
-
-#if UNITS & 0x60
-INTERNAL u32 warnings_findings_Findings_add(word self, word warning);
-#endif
-
-#if UNITS & 0xc0
-INTERNAL u32 warnings_findings_count(word counts, word warning);
-#endif
-
-#if UNITS & 0x80
-static INLINE u32 warnings_inside_stands_so(u32 joined, word text, u64 text_len, word items, u64 items_len);
-#endif
-
-#if UNITS & 0x40
-static u32 warnings_misspelled_look_at_names(word warnings, u64 alloc, u64 input, u64 input_len);
-static void warnings_names_suspicion_of_name(word result, word name, u64 name_len);
-#endif
-
-#if UNITS & 0x80
-static INLINE u32 warnings_names_is_written(word name, u64 name_len, word input, u64 input_len);
 #endif
 
 #if UNITS & 0x20
-static INLINE u32 warnings_names_is_called_alone(word name, u64 name_len, word input, u64 input_len);
+static u32 warnings_bodies_look_at_body(word warnings, u64 alloc, u32 function, word form, word ending);
+static u32 warnings_bodies_provides(u32 function, word ending);
+static u32 warnings_bodies_look_at_called(word warnings, u64 alloc, word form, word ending);
 #endif
 
-#if UNITS & 0xc0
-INTERNAL u32 warnings_operands_look_at_numbers(word a1, u64 a2, word a3, word a4);
+#if UNITS & 0xa0
+INTERNAL u32 warnings_findings_Findings_add(word self, word warning);
+#endif
+
+#if UNITS & 0x20
+static u32 warnings_findings_count(word counts, word warning);
+static INLINE u32 warnings_inside_stands_so(u32 joined, word text, u64 text_len, word items, u64 items_len);
+static u32 warnings_misspelled_look_at_names(word warnings, u64 alloc, u64 input, u64 input_len);
+static void warnings_names_suspicion_of_name(word result, word name, u64 name_len);
+static INLINE u32 warnings_names_is_written(word name, u64 name_len, word input, u64 input_len);
 #endif
 
 #if UNITS & 0x40
+static INLINE u32 warnings_names_is_called_alone(word name, u64 name_len, word input, u64 input_len);
+#endif
+
+#if UNITS & 0x20
+static u32 warnings_operands_look_at_numbers(word a1, u64 a2, word a3, word a4);
 static void warnings_operands_operand_among(word result, word machine, word cells, u64 cells_len);
 #endif
 
-#if UNITS & 0x80
-static u32 warnings_operands_look_at_both(word a1, u64 a2, word a3);
+#if UNITS & 0x60
+INTERNAL u32 warnings_operands_look_at_both(word a1, u64 a2, word a3);
+#endif
+
+#if UNITS & 0x20
 static u32 warnings_operands_parts_number(word arguments, u64 arguments_len);
-#endif
-
-#if UNITS & 0xc0
-INTERNAL u32 warnings_performed_look_at_call(word warnings, u64 alloc, word machine, word ending);
-INTERNAL void warnings_performed_suspicion_of_call(word result, word machine, word name, u64 name_len);
-#endif
-
-#if UNITS & 0x80
-static u32 warnings_performed_warn_of_nesting(word a1, u64 a2, u32 a3, u32 a4, word a5);
+static u32 warnings_performed_look_at_call(word warnings, u64 alloc, word machine, word ending);
+static void warnings_performed_suspicion_of_call(word result, word machine, word name, u64 name_len);
+static u32 warnings_performed_warn_of_nesting(word warnings, u64 alloc, u32 function, word ending);
 static u32 warnings_performed_is_in_default(word arguments, u64 arguments_len);
-static u32 warnings_performed_look_at_named_form(word a1, u64 a2, word a3, u32 a4, u32 a5, word a6);
-static u32 warnings_performed_look_at_missing(word a1, u64 a2, word a3, u32 a4, u32 a5, u64 a6, u64 a7, word a8);
+static u32 warnings_performed_look_at_named_form(word warnings, u64 alloc, word machine, u32 function, word ending);
+static u32 warnings_performed_look_at_missing(word warnings, u64 alloc, word machine, u32 function, u64 name, u64
+    name_len, word ending);
 #endif
 
-#if UNITS & 0xe0
+#if UNITS & 0x60
 INTERNAL u32 warnings_performed_warn(word warnings, u64 alloc, u32 suspicion, word origin, word cells, u64 cells_len);
 #endif
 
-#if UNITS & 0x80
+#if UNITS & 0x20
 static u32 warnings_performed_warn_of(word a1, word a2, word a3);
 #endif
 
-#if UNITS & 0xe0
+#if UNITS & 0x60
 INTERNAL void warnings_performed_characters_of(word result, u64 alloc, word cells, u64 cells_len);
 #endif
 
-#if UNITS & 0x80
+#if UNITS & 0x20
 static u32 warnings_printed_look_at_printed(word a1, u64 a2, word a3);
 static u32 warnings_printed_look_at_new_meta(word a1, u64 a2, word a3);
 static u32 warnings_segmented_look_at_texts(word warnings, u64 alloc, word items, u64 items_len, word ending);
@@ -1193,41 +1185,58 @@ static u32 warnings_segmented_look_for_texts(word warnings, u64 alloc, word name
     items_len, word ending);
 #endif
 
-#if UNITS & 0x40
-static u32 warnings_watch_Watch_warn_of_rule(word self, word before, word origin, word active, u64 active_len, u64
+#if UNITS & 0xa0
+INTERNAL u32 warnings_watch_Watch_warn_of_rule(word self, word before, word origin, word active, u64 active_len, u64
     neutral);
-static u32 warnings_watch_Watch_look_at_end_of_call(word self, u64 before, word machine, u64 input, u64 input_len);
+INTERNAL u32 warnings_watch_Watch_look_at_end_of_call(word self, u64 before, word machine, u64 input, u64 input_len);
+#endif
+
+#if UNITS & 0x20
 static u32 warnings_watch_Watch_look_at_call(word self, word machine, word mark, u64 input, u64 input_len);
 static u32 warnings_watch_Watch_warn_of_protection(word self, word before, word origin);
 static u32 warnings_watch_Watch_warn_of_call(word self, word before, u64 active, u64 neutral);
 static u32 warnings_watch_Watch_close_call(word self);
-static u32 warnings_watch_Watch_warn_of_ends(word self, u32 rule, u64 active, word here);
+#endif
+
+#if UNITS & 0xa0
+INTERNAL u32 warnings_watch_Watch_warn_of_ends(word self, u32 rule, u64 active, word here);
 #endif
 
 #if UNITS & 0x20
 static u32 warnings_watch_Watch_warn_of_fault(u64 self, word warnings, word input, u64 input_len);
-#endif
-
-#if UNITS & 0x40
 static void warnings_watch_Watch_origin_of_form(word result, word self, word machine, word begin);
 #endif
 
-#if UNITS & 0xc0
-INTERNAL void warnings_watch_Watch_origin_of_argument(word result, word self, word value, u64 value_len);
-#endif
-
-#if UNITS & 0x40
-static u32 warnings_watch_Watch_define(word self, word name);
-static u32 warnings_watch_Watch_count_call(word self, word name);
-static u32 warnings_watch_Watch_warn_of_read(word a1, word a2, u64 a3, u64 a4, word a5, u64 a6);
-static u32 warnings_watch_Watch_move_on(word self, word before, word machine, word value);
-static u32 warnings_written_look_at_script(word warnings, u64 alloc, u64 input, u64 input_len);
-static u32 warnings_written_look_at_lines(word warnings, u64 alloc, word input, u64 input_len);
-static u32 warnings_written_look_at_spelling(word warnings, u64 alloc, u64 input, u64 input_len);
-static u32 warnings_written_warn_at(word warnings, u64 alloc, u32 suspicion, u64 place, u64 bytes, word bytes_len);
+#if UNITS & 0x80
+static void warnings_watch_Watch_origin_of_argument(word result, word self, word value, u64 value_len);
 #endif
 
 #if UNITS & 0x20
+static u32 warnings_watch_Watch_define(word self, word name);
+static u32 warnings_watch_Watch_count_call(word self, word name);
+#endif
+
+#if UNITS & 0xa0
+INTERNAL u32 warnings_watch_Watch_warn_of_read(word a1, word a2, u64 a3, u64 a4, word a5, u64 a6);
+#endif
+
+#if UNITS & 0x80
+static u32 warnings_watch_Watch_move_on(word self, word before, word machine, word value);
+#endif
+
+#if UNITS & 0xa0
+INTERNAL u32 warnings_written_look_at_script(word warnings, u64 alloc, u64 input, u64 input_len);
+#endif
+
+#if UNITS & 0x20
+static u32 warnings_written_look_at_lines(word warnings, u64 alloc, word input, u64 input_len);
+static u32 warnings_written_look_at_spelling(word warnings, u64 alloc, u64 input, u64 input_len);
+static void warnings_written_look_at_mark(word result, word warnings, u64 alloc, u64 place, u64 text, u64 text_len, u32
+    is_reported, u32 is_behind_sign);
+static u32 warnings_written_warn_at(word warnings, u64 alloc, u32 suspicion, u64 place, u64 bytes, word bytes_len);
+#endif
+
+#if UNITS & 0x40
 static u32 views_calls_push_call(word line, u64 alloc, word called, u32 width);
 static u32 views_calls_push_results(word line, u64 alloc, word called, u32 width);
 static u32 views_deleted_push_deleted(word line, u64 alloc, u32 touched, word arguments, u64 arguments_len, word
@@ -1261,24 +1270,21 @@ static u32 tracer_shown_Shown_add_call(word self, word before, word machine, u64
 static u32 tracer_shown_Shown_add_forms(word self, word machine);
 #endif
 
-#if UNITS & 0x60
+#if UNITS & 0xc0
 INTERNAL void checker_run_watched(word result, u64 alloc, u64 block, u64 block_len, u64 steps, u64 input, u64 input_len,
     word source);
 #endif
 
-#if UNITS & 0x40
+#if UNITS & 0x80
 static void checker_run_of_script(word result, u64 alloc, u64 input, u64 input_len);
 #endif
 
-#if UNITS & 0x60
+#if UNITS & 0xa0
 INTERNAL u32 checker_run_add_fault(word findings, u64 alloc, u64 watch, u32 fate, word input, u64 input_len);
+INTERNAL u32 checker_run_add_names(word findings, u64 alloc, u64 input, u64 input_len);
 #endif
 
 #if UNITS & 0x40
-static u32 checker_run_add_names(word findings, u64 alloc, u64 input, u64 input_len);
-#endif
-
-#if UNITS & 0x20
 static u32 checker_run_WatchedRun_push_warnings(u64 a1, word a2, word a3, u64 a4);
 static u32 checker_run_WatchedRun_push_line(word a1, word a2, word a3, u64 a4, u64 a5, u64 a6);
 #endif
@@ -1295,13 +1301,16 @@ static INLINE u32 engine_set_meta(word machine, u32 byte);
 static INLINE u64 engine_find_form(word machine, u64 name, u64 name_len);
 #endif
 
-#if UNITS & 0x20
-static void engine_check(word result, u64 block, u64 cells, u64 steps, u64 script, u64 script_len, u64 memory, u64
+#if UNITS & 0x60
+INTERNAL void engine_check(word result, u64 block, u64 cells, u64 steps, u64 script, u64 script_len, u64 memory, u64
     units, u64 to, u64 to_len);
 #endif
 
-#if UNITS & 0x7
+#if UNITS & 0x15
 INTERNAL u32 c_devices_OverflowSinkSink_put_all(word self, word text);
+#endif
+
+#if UNITS & 0x19
 static INLINE u64 c_filling_put_characters(word text, u64 place, word room_, u64 room_len);
 #endif
 
@@ -1317,10 +1326,10 @@ INTERNAL u64 c_forms_lay_shown(word form, u64 from, u64 room_, u64 room_len);
 #if UNITS & 0x12
 INTERNAL u64 engine_function_count(void);
 INTERNAL u32 engine_function_fact(u64 k, u32 which);
+INTERNAL u64 engine_function_text(u64 k, u32 which, u64 to, u64 to_len);
 #endif
 
 #if UNITS & 0x2
-static u64 engine_function_text(u64 k, u32 which, u64 to, u64 to_len);
 static INLINE void engine_stop_at_unknown(word machine, u32 stops);
 #endif
 
@@ -1350,10 +1359,7 @@ INTERNAL void engine_turn(word result, word machine, u64 input, u64 input_len, u
 #if UNITS & 0x2
 static INLINE void engine_again(word machine, u64 steps);
 static INLINE u32 engine_take_peak(word machine);
-#endif
-
-#if UNITS & 0xa
-INTERNAL void engine_turn_to_form(word machine, u64 k);
+static void engine_turn_to_form(word machine, u64 k);
 #endif
 
 #if UNITS & 0x12
@@ -1362,30 +1368,24 @@ INTERNAL void engine_run(word result, u64 block, u64 cells, u64 steps, u64 scrip
     output_len);
 #endif
 
-#if UNITS & 0x20
-static void engine_trace_step(word result, word machine, word trace, u64 input, u64 input_len, u64 output, u64
+#if UNITS & 0x60
+INTERNAL void engine_trace_step(word result, word machine, word trace, u64 input, u64 input_len, u64 output, u64
     output_len, u32 ended, u64 memory, u64 units, u64 lines, u64 lines_len);
 #endif
 
-#if UNITS & 0x25
+#if UNITS & 0x45
 INTERNAL void c_turn_take_turn(word result, word machine, u64 input, u64 input_len, u64 output, u64 output_len, u32
     ended, u64 most);
 #endif
 
 #if UNITS & 0x2
 static INLINE u64 engine_form_count(word machine);
+static u64 engine_form_name(word machine, u64 k, u64 to, u64 to_len);
 #endif
 
 #if UNITS & 0x12
-INTERNAL u64 engine_form_name(word machine, u64 k, u64 to, u64 to_len);
 INTERNAL u64 engine_form_text(word machine, u64 k, u64 to, u64 to_len);
-#endif
-
-#if UNITS & 0x2
-static u64 engine_form_codes(word machine, u64 k, u64 to, u64 to_len);
-#endif
-
-#if UNITS & 0x6
+INTERNAL u64 engine_form_codes(word machine, u64 k, u64 to, u64 to_len);
 INTERNAL u64 engine_form_pointer(word machine, u64 k);
 #endif
 
@@ -1395,8 +1395,11 @@ static INLINE u64 engine_active_part(word machine, u64 from, u64 to, u64 to_len)
 static INLINE u64 engine_calls(word machine, u64 to, u64 to_len);
 #endif
 
-#if UNITS & 0x6
+#if UNITS & 0xa
 INTERNAL u64 engine_argument_count(word machine);
+#endif
+
+#if UNITS & 0x6
 INTERNAL u64 engine_argument(word machine, u64 which, u64 to, u64 to_len);
 INTERNAL u64 engine_printed(word machine, u64 from, u64 to, u64 to_len);
 #endif
@@ -1405,10 +1408,10 @@ INTERNAL u64 engine_printed(word machine, u64 from, u64 to, u64 to_len);
 INTERNAL u64 engine_takes(word machine);
 INTERNAL u64 engine_drops(word machine);
 INTERNAL u64 engine_steps_to_call(word machine, u64 most);
-INTERNAL u32 engine_rule(word machine);
 #endif
 
 #if UNITS & 0x2
+static u32 engine_rule(word machine);
 static INLINE u64 engine_part(word machine, u32 which);
 static INLINE u32 engine_meta(word machine);
 #endif
@@ -1426,7 +1429,7 @@ INTERNAL void engine_run_zeroed(word result, u64 block, u64 cells, u64 steps, u6
     u64 output_len);
 #endif
 
-#if UNITS & 0xf
+#if UNITS & 0x17
 static INLINE void ashlti3(word a1, u64 a2, u64 a3, u32 a4);
 #endif
 
@@ -1438,7 +1441,7 @@ INTERNAL void bumpalo_bump_Bump_alloc_layout_slow(word a1, word a2, u64 a3, word
 INTERNAL void core_alloc_RefAllocator_grow(word a1, word a2, u64 a3, u64 a4, u64 a5, u64 a6);
 #endif
 
-#if UNITS & 0x40
+#if UNITS & 0x20
 static void core_alloc_RefAllocator_grow2(word a1, word a2, u64 a3, u64 a4, u64 a5, u64 a6);
 #endif
 
@@ -1446,19 +1449,19 @@ static void core_alloc_RefAllocator_grow2(word a1, word a2, u64 a3, u64 a4, u64 
 static u32 core_cmp_slices_groups_equal(word a1, u64 a2, word a3);
 #endif
 
-#if UNITS & 0x20
+#if UNITS & 0x40
 static INLINE void core_slice_edits_mirror(word a1, word a2, u64 a3);
 #endif
 
-#if UNITS & 0x60
+#if UNITS & 0xc0
 static INLINE void core_slice_edits_mirror2(word a1, word a2, u64 a3);
 #endif
 
-#if UNITS & 0x40
+#if UNITS & 0x80
 static INLINE void core_slice_edits_mirror3(word a1, word a2, u64 a3);
 #endif
 
-#if UNITS & 0x55
+#if UNITS & 0x27
 INTERNAL u32 core_slice_reads_slice_T_contains(word a1, u64 a2, word a3);
 #endif
 
@@ -1470,15 +1473,15 @@ static void image_body_ImageBody_of(word a1, u64 a2, u64 a3);
 static INLINE void itoa_Buffer_format(word a1, u64 a2, u64 a3);
 #endif
 
-#if UNITS & 0xd
+#if UNITS & 0x15
 INTERNAL void itoa_Buffer_format2(word a1, u64 a2, u64 a3, u64 a4);
 #endif
 
-#if UNITS & 0x77
+#if UNITS & 0xd5
 static INLINE u64 itoa_integer_write_unsigned(u64 a1, word a2);
 #endif
 
-#if UNITS & 0xf
+#if UNITS & 0x17
 static INLINE void lshrti3(word a1, u64 a2, u64 a3, u32 a4);
 static INLINE void multi3(word a1, u64 a2, u64 a3, u64 a4, u64 a5);
 #endif
@@ -1487,93 +1490,87 @@ static INLINE void multi3(word a1, u64 a2, u64 a3, u64 a4, u64 a5);
 static INLINE void rattle_export_trac_engine_cell_size(void);
 #endif
 
-#if UNITS & 0x80
+#if UNITS & 0x20
 static INLINE u32 std_alloc_compared_VecOrd_cmp(word a1, word a2);
 #endif
 
-#if UNITS & 0x40
+#if UNITS & 0x80
 static INLINE void std_alloc_vec_Vec_drop(word a1);
 static INLINE void std_alloc_vec_Vec_drop2(word a1);
 static INLINE void std_alloc_vec_Vec_drop3(word a1);
 static u32 std_alloc_vec_Vec_grow_amortized(word a1);
-static u32 std_alloc_vec_Vec_grow_amortized2(word a1);
 #endif
 
-#if UNITS & 0xe0
+#if UNITS & 0xa0
+INTERNAL u32 std_alloc_vec_Vec_grow_amortized2(word a1);
+#endif
+
+#if UNITS & 0x60
 INTERNAL u32 std_alloc_vec_Vec_grow_amortized3(word a1);
 INTERNAL u32 std_alloc_vec_Vec_grow_amortized4(word a1, u64 a2);
 INTERNAL u32 std_alloc_vec_Vec_grow_amortized5(word a1, u64 a2);
 #endif
 
-#if UNITS & 0xc0
-INTERNAL u32 std_alloc_vec_Vec_grow_amortized6(word a1);
-#endif
-
-#if UNITS & 0x40
+#if UNITS & 0x20
+static u32 std_alloc_vec_Vec_grow_amortized6(word a1);
 static u32 std_alloc_vec_Vec_grow_amortized7(word a1);
 #endif
 
 #if UNITS & 0xe0
 static INLINE void std_alloc_vec_Vec_remove(word a1, word a2, word a3);
-#endif
-
-#if UNITS & 0x60
 INTERNAL void std_alloc_vec_Vec_remove2(word a1, word a2, word a3);
 #endif
 
-#if UNITS & 0x40
+#if UNITS & 0x20
 static void std_alloc_vec_Vec_with_capacity(word a1, u64 a2, u64 a3);
 #endif
 
-#if UNITS & 0x60
+#if UNITS & 0xa0
 static INLINE void std_alloc_vec_deque_VecDeque_drop(word a1);
 #endif
 
-#if UNITS & 0x40
+#if UNITS & 0x20
 static void std_alloc_vec_lodged_Vec_T_Lodged_insert_reserved(word a1, word a2, word a3);
-#endif
-
-#if UNITS & 0x80
 static INLINE void std_alloc_vec_lodged_Vec_T_Lodged_insert_reserved2(word a1, word a2, word a3);
 static INLINE void std_alloc_vec_lodged_Vec_T_Lodged_insert_reserved3(word a1, word a2, u64 a3);
 #endif
 
-#if UNITS & 0xc0
+#if UNITS & 0xa0
 INTERNAL void std_alloc_vec_lodged_Vec_T_Lodged_insert_reserved4(word a1, word a2, word a3);
 #endif
 
 #if UNITS & 0x20
 static INLINE void std_collections_btree_iter_Cursor_advance(word a1, u64 a2, u64 a3, u64 a4, u64 a5);
-static INLINE void std_collections_btree_iter_Cursor_advance_i64(word a1, u64 a2, u64 a3, u64 a4, u64 a5);
 #endif
 
 #if UNITS & 0x40
+static INLINE void std_collections_btree_iter_Cursor_advance_i64(word a1, u64 a2, u64 a3, u64 a4, u64 a5);
+#endif
+
+#if UNITS & 0x20
 static void std_collections_btree_map_BTreeMap_get(word a1, word a2, word a3);
 static void std_collections_btree_map_BTreeMap_insert(word a1, word a2, word a3, word a4);
+#endif
+
+#if UNITS & 0x80
 static void std_collections_btree_node_Node_destroy(u64 a1, word a2);
 static void std_collections_btree_node_Node_destroy2(u64 a1, word a2);
 static void std_collections_btree_node_Node_destroy3(u64 a1, word a2);
 #endif
 
-#if UNITS & 0x20
+#if UNITS & 0x40
 static void std_collections_btree_node_Node_destroy4(u64 a1, word a2);
 static void std_collections_btree_node_Node_destroy5(u64 a1, word a2);
 static void std_collections_btree_node_Node_destroy6(u64 a1, word a2);
 #endif
 
-#if UNITS & 0x40
+#if UNITS & 0x20
 static void std_collections_btree_node_parts_Parts_new(word a1, word a2, u64 a3);
-#endif
-
-#if UNITS & 0xc0
-INTERNAL void std_collections_btree_node_parts_Parts_new2(word a1, word a2, u64 a3);
-#endif
-
-#if UNITS & 0x40
+static void std_collections_btree_node_parts_Parts_new2(word a1, word a2, u64 a3);
 static void std_collections_btree_node_parts_Parts_new3(word a1, word a2, u64 a3);
 #endif
 
-#if UNITS & 0x60
+#if UNITS & 0xc0
 INTERNAL void std_collections_btree_row_Row_reverse(word a1);
 INTERNAL void std_collections_btree_row_Row_reverse2(word a1);
 INTERNAL void std_collections_btree_row_Row_reverse_i64(word a1);
@@ -1581,7 +1578,7 @@ INTERNAL void std_collections_btree_row_Row_reverse_i64(word a1);
 
 /* ---- The crate trac_language ---- */
 
-#if UNITS & 0x12
+#if UNITS & 0x10
 
 /* Function `k`, from 0. */
 static INLINE void language_table_function_at(word result, u64 k) {
@@ -1609,10 +1606,10 @@ static INLINE void language_table_function_at(word result, u64 k) {
 }
 #endif
 
-#if UNITS & 0xf2
+#if UNITS & 0x11
 
-/* trac_language::table::row. */
-static INLINE void language_table_row(word a1, u32 a2, u32 a3) {
+/* The row of a function. */
+INTERNAL void language_table_facts_of(word a1, u32 a2, u32 a3) {
     u64 room[2];
     const word frame = (word)room;
     u32 n91 = 0u;
@@ -1626,19 +1623,17 @@ static INLINE void language_table_row(word a1, u32 a2, u32 a3) {
     u32 n96 = 0u;
     u32 n64 = 0u;
     u32 n65 = 0u;
-    store8(frame + 10u, 0u);
-    store16(frame + 8u, 0u);
-    store16(frame + 4u, 0u);
-    store8(frame + 6u, 0u);
+    store16(frame + 12u, 0u);
+    store8(frame + 14u, 0u);
     u32 n66;
     u32 n217;
     u64 w20;
-    u64 w526;
+    u64 w75;
     u64 w95;
-    u64 w662;
+    u64 w152;
     word p292;
-    u64 w34;
-    u64 w127;
+    u64 w737;
+    u64 w684;
     u32 n218;
     u32 n219;
     u32 n220;
@@ -1651,431 +1646,431 @@ static INLINE void language_table_row(word a1, u32 a2, u32 a3) {
     default:
     {
         n66 = 0u;
-        store8(frame + 6u, 0u);
-        store16(frame + 4u, 0u);
+        store8(frame + 10u, 0u);
+        store16(frame + 8u, 0u);
         n217 = 1u;
         w20 = 48u;
-        w526 = TABLES + 3044u;
+        w75 = TABLES + 3044u;
         w95 = 11u;
-        w662 = TABLES + 3033u;
+        w152 = TABLES + 3033u;
         p292 = 2u;
-        w34 = TABLES + 3031u;
-        w127 = TABLES + 3031u;
-        goto L253;
+        w737 = TABLES + 3031u;
+        w684 = TABLES + 3031u;
+        goto L815;
     }
     case 0:
     {
         n66 = 0u;
-        store8(frame + 6u, 0u);
-        store16(frame + 4u, 0u);
+        store8(frame + 10u, 0u);
+        store16(frame + 8u, 0u);
         n217 = 1u;
         w20 = 40u;
-        w526 = TABLES + 3108u;
+        w75 = TABLES + 3108u;
         w95 = 14u;
-        w662 = TABLES + 3094u;
+        w152 = TABLES + 3094u;
         p292 = 2u;
-        w34 = TABLES + 3092u;
-        w127 = TABLES + 3092u;
-        goto L253;
+        w737 = TABLES + 3092u;
+        w684 = TABLES + 3092u;
+        goto L815;
     }
     case 1:
     {
         n66 = 0u;
-        store8(frame + 6u, 0u);
-        store16(frame + 4u, 0u);
+        store8(frame + 10u, 0u);
+        store16(frame + 8u, 0u);
         n217 = 1u;
         w20 = 52u;
-        w526 = TABLES + 3165u;
+        w75 = TABLES + 3165u;
         w95 = 11u;
-        w662 = TABLES + 3154u;
+        w152 = TABLES + 3154u;
         p292 = 4u;
-        w127 = TABLES + 3150u;
-        w34 = TABLES + 3148u;
+        w684 = TABLES + 3150u;
+        w737 = TABLES + 3148u;
         n65 = 1u;
         n218 = 1u;
-        goto L134;
+        goto L147;
     }
     case 2:
     {
         n66 = 0u;
-        store8(frame + 6u, 0u);
-        store16(frame + 4u, 0u);
+        store8(frame + 10u, 0u);
+        store16(frame + 8u, 0u);
         n217 = 1u;
         w20 = 13u;
-        w526 = TABLES + 3235u;
+        w75 = TABLES + 3235u;
         w95 = 12u;
-        w662 = TABLES + 3223u;
+        w152 = TABLES + 3223u;
         p292 = 4u;
-        w127 = TABLES + 3219u;
-        w34 = TABLES + 3217u;
+        w684 = TABLES + 3219u;
+        w737 = TABLES + 3217u;
         n65 = 1u;
-        goto L435;
+        goto L713;
     }
     case 3:
     {
         n66 = 0u;
-        store8(frame + 6u, 0u);
-        store16(frame + 4u, 0u);
+        store8(frame + 10u, 0u);
+        store16(frame + 8u, 0u);
         n217 = 1u;
         w20 = 13u;
-        w526 = TABLES + 3254u;
+        w75 = TABLES + 3254u;
         w95 = 4u;
-        w662 = TABLES + 3250u;
+        w152 = TABLES + 3250u;
         p292 = 2u;
-        w34 = TABLES + 3248u;
-        w127 = TABLES + 3248u;
+        w737 = TABLES + 3248u;
+        w684 = TABLES + 3248u;
         n219 = 1u;
         break;
     }
     case 4:
     {
-        store8(frame + 6u, 0u);
-        store16(frame + 4u, 0u);
+        store8(frame + 10u, 0u);
+        store16(frame + 8u, 0u);
         n65 = 2u;
         n66 = 1u;
         w20 = 17u;
-        w526 = TABLES + 3288u;
+        w75 = TABLES + 3288u;
         w95 = 13u;
-        w662 = TABLES + 3275u;
+        w152 = TABLES + 3275u;
         p292 = 6u;
-        w127 = TABLES + 3269u;
-        w34 = TABLES + 3267u;
+        w684 = TABLES + 3269u;
+        w737 = TABLES + 3267u;
         n217 = 1u;
         n64 = 1u;
         n220 = 0u;
-        goto L712;
+        goto L996;
     }
     case 5:
     {
         n217 = 0u;
-        store8(frame + 6u, 0u);
-        store16(frame + 4u, 0u);
+        store8(frame + 10u, 0u);
+        store16(frame + 8u, 0u);
         n66 = 1u;
         w20 = 80u;
-        w526 = TABLES + 3334u;
+        w75 = TABLES + 3334u;
         w95 = 14u;
-        w662 = TABLES + 3320u;
+        w152 = TABLES + 3320u;
         p292 = 13u;
-        w127 = TABLES + 3307u;
-        w34 = TABLES + 3305u;
+        w684 = TABLES + 3307u;
+        w737 = TABLES + 3305u;
         n64 = 1u;
         n220 = 1u;
-        goto L712;
+        goto L996;
     }
     case 6:
     {
         n217 = 0u;
-        store8(frame + 6u, 0u);
-        store16(frame + 4u, 0u);
+        store8(frame + 10u, 0u);
+        store16(frame + 8u, 0u);
         n64 = 2u;
         n66 = 1u;
         w20 = 33u;
-        w526 = TABLES + 3444u;
+        w75 = TABLES + 3444u;
         w95 = 17u;
-        w662 = TABLES + 3427u;
+        w152 = TABLES + 3427u;
         p292 = 11u;
-        w127 = TABLES + 3416u;
-        w34 = TABLES + 3414u;
-        goto L423;
+        w684 = TABLES + 3416u;
+        w737 = TABLES + 3414u;
+        goto L777;
     }
     case 7:
     {
-        store8(frame + 6u, 0u);
-        store16(frame + 4u, 0u);
+        store8(frame + 10u, 0u);
+        store16(frame + 8u, 0u);
         n64 = 3u;
         n66 = 1u;
         w20 = 22u;
-        w526 = TABLES + 3489u;
+        w75 = TABLES + 3489u;
         w95 = 10u;
-        w662 = TABLES + 3479u;
+        w152 = TABLES + 3479u;
         p292 = 2u;
-        w34 = TABLES + 3477u;
-        w127 = TABLES + 3477u;
+        w737 = TABLES + 3477u;
+        w684 = TABLES + 3477u;
         n217 = 1u;
-        goto L423;
+        goto L777;
     }
     case 8:
     {
-        store8(frame + 6u, 0u);
-        store16(frame + 4u, 0u);
+        store8(frame + 10u, 0u);
+        store16(frame + 8u, 0u);
         n64 = 3u;
         n66 = 1u;
         w20 = 61u;
-        w526 = TABLES + 3527u;
+        w75 = TABLES + 3527u;
         w95 = 10u;
-        w662 = TABLES + 3517u;
+        w152 = TABLES + 3517u;
         p292 = 4u;
-        w127 = TABLES + 3513u;
-        w34 = TABLES + 3511u;
+        w684 = TABLES + 3513u;
+        w737 = TABLES + 3511u;
         n217 = 1u;
         n65 = 1u;
         n221 = 0u;
-        goto L643;
+        goto L985;
     }
     case 9:
     {
-        store8(frame + 6u, 0u);
-        store16(frame + 4u, 0u);
+        store8(frame + 10u, 0u);
+        store16(frame + 8u, 0u);
         n66 = 1u;
         w20 = 49u;
-        w526 = TABLES + 3604u;
+        w75 = TABLES + 3604u;
         w95 = 10u;
-        w662 = TABLES + 3594u;
+        w152 = TABLES + 3594u;
         p292 = 4u;
-        w127 = TABLES + 3590u;
-        w34 = TABLES + 3588u;
+        w684 = TABLES + 3590u;
+        w737 = TABLES + 3588u;
         n217 = 1u;
         n65 = 1u;
         n64 = 1u;
         n96 = 1u;
-        goto L435;
+        goto L713;
     }
     case 10:
     {
         n217 = 0u;
-        store8(frame + 6u, 0u);
-        store16(frame + 4u, 0u);
+        store8(frame + 10u, 0u);
+        store16(frame + 8u, 0u);
         n64 = 1u;
         n66 = 2u;
         w20 = 69u;
-        w526 = TABLES + 3672u;
+        w75 = TABLES + 3672u;
         w95 = 4u;
-        w662 = TABLES + 3668u;
+        w152 = TABLES + 3668u;
         p292 = 13u;
-        w127 = TABLES + 3655u;
-        w34 = TABLES + 3653u;
+        w684 = TABLES + 3655u;
+        w737 = TABLES + 3653u;
         n96 = 1u;
         n222 = 1u;
-        goto L817;
+        goto L81;
     }
     case 11:
     {
-        store8(frame + 6u, 0u);
-        store16(frame + 4u, 0u);
+        store8(frame + 10u, 0u);
+        store16(frame + 8u, 0u);
         n217 = 1u;
         n66 = 2u;
         w20 = 56u;
-        w526 = TABLES + 3761u;
+        w75 = TABLES + 3761u;
         w95 = 12u;
-        w662 = TABLES + 3749u;
+        w152 = TABLES + 3749u;
         p292 = 6u;
-        w127 = TABLES + 3743u;
-        w34 = TABLES + 3741u;
-        goto L115;
+        w684 = TABLES + 3743u;
+        w737 = TABLES + 3741u;
+        goto L246;
     }
     case 12:
     {
-        store8(frame + 6u, 0u);
-        store16(frame + 4u, 0u);
+        store8(frame + 10u, 0u);
+        store16(frame + 8u, 0u);
         n217 = 1u;
         n66 = 2u;
         w20 = 65u;
-        w526 = TABLES + 3839u;
+        w75 = TABLES + 3839u;
         w95 = 14u;
-        w662 = TABLES + 3825u;
+        w152 = TABLES + 3825u;
         p292 = 6u;
-        w127 = TABLES + 3819u;
-        w34 = TABLES + 3817u;
-        goto L115;
+        w684 = TABLES + 3819u;
+        w737 = TABLES + 3817u;
+        goto L246;
     }
     case 13:
     {
-        store8(frame + 6u, 0u);
-        store16(frame + 4u, 0u);
+        store8(frame + 10u, 0u);
+        store16(frame + 8u, 0u);
         n217 = 1u;
         n65 = 3u;
         n66 = 2u;
         w20 = 85u;
-        w526 = TABLES + 3931u;
+        w75 = TABLES + 3931u;
         w95 = 17u;
-        w662 = TABLES + 3914u;
+        w152 = TABLES + 3914u;
         p292 = 8u;
-        w127 = TABLES + 3906u;
-        w34 = TABLES + 3904u;
-        goto L566;
+        w684 = TABLES + 3906u;
+        w737 = TABLES + 3904u;
+        goto L941;
     }
     case 14:
     {
-        store8(frame + 6u, 0u);
-        store16(frame + 4u, 0u);
+        store8(frame + 10u, 0u);
+        store16(frame + 8u, 0u);
         n217 = 1u;
         n65 = 3u;
         n66 = 2u;
         w20 = 60u;
-        w526 = TABLES + 4033u;
+        w75 = TABLES + 4033u;
         w95 = 7u;
-        w662 = TABLES + 4026u;
+        w152 = TABLES + 4026u;
         p292 = 8u;
-        w127 = TABLES + 4018u;
-        w34 = TABLES + 4016u;
-        goto L566;
+        w684 = TABLES + 4018u;
+        w737 = TABLES + 4016u;
+        goto L941;
     }
     case 15:
     {
-        store8(frame + 6u, 0u);
-        store16(frame + 4u, 0u);
+        store8(frame + 10u, 0u);
+        store16(frame + 8u, 0u);
         n217 = 1u;
         n66 = 2u;
         w20 = 45u;
-        w526 = TABLES + 4111u;
+        w75 = TABLES + 4111u;
         w95 = 12u;
-        w662 = TABLES + 4099u;
+        w152 = TABLES + 4099u;
         p292 = 4u;
-        w127 = TABLES + 4095u;
-        w34 = TABLES + 4093u;
+        w684 = TABLES + 4095u;
+        w737 = TABLES + 4093u;
         n65 = 1u;
         n64 = 1u;
         n96 = 1u;
         n95 = 1u;
         n222 = 0u;
-        goto L817;
+        goto L81;
     }
     case 16:
     {
-        store8(frame + 6u, 0u);
-        store16(frame + 4u, 0u);
+        store8(frame + 10u, 0u);
+        store16(frame + 8u, 0u);
         n217 = 1u;
         n65 = 4u;
         n66 = 3u;
         w20 = 55u;
-        w526 = TABLES + 4173u;
+        w75 = TABLES + 4173u;
         w95 = 5u;
-        w662 = TABLES + 4168u;
+        w152 = TABLES + 4168u;
         p292 = 10u;
-        w127 = TABLES + 4158u;
-        w34 = TABLES + 4156u;
-        goto L661;
+        w684 = TABLES + 4158u;
+        w737 = TABLES + 4156u;
+        goto L752;
     }
     case 17:
     {
-        store8(frame + 6u, 0u);
-        store16(frame + 4u, 0u);
+        store8(frame + 10u, 0u);
+        store16(frame + 8u, 0u);
         n217 = 1u;
         n65 = 4u;
         n66 = 3u;
         w20 = 71u;
-        w526 = TABLES + 4247u;
+        w75 = TABLES + 4247u;
         w95 = 7u;
-        w662 = TABLES + 4240u;
+        w152 = TABLES + 4240u;
         p292 = 10u;
-        w127 = TABLES + 4230u;
-        w34 = TABLES + 4228u;
-        goto L661;
+        w684 = TABLES + 4230u;
+        w737 = TABLES + 4228u;
+        goto L752;
     }
     case 18:
     {
+        store8(frame + 14u, 0u);
+        store16(frame + 12u, 0u);
         store16(frame + 8u, 0u);
         store8(frame + 10u, 0u);
-        store16(frame + 4u, 0u);
-        store8(frame + 6u, 0u);
         const word p688 = ((word)a3 & 255u) << 3;
-        w34 = table64(p688 + TABLES + 8216u);
-        w127 = table64(p688 + TABLES + 8184u);
-        w662 = table64(p688 + TABLES + 8152u);
-        w95 = table64(p688 + TABLES + 8120u);
-        w526 = table64(p688 + TABLES + 8088u);
-        w20 = table64(p688 + TABLES + 8056u);
+        w737 = table64(p688 + TABLES + 8936u);
+        w684 = table64(p688 + TABLES + 8904u);
+        w152 = table64(p688 + TABLES + 8872u);
+        w95 = table64(p688 + TABLES + 8840u);
+        w75 = table64(p688 + TABLES + 8808u);
+        w20 = table64(p688 + TABLES + 8776u);
         n65 = 3u;
         n217 = 1u;
         n66 = 4u;
         p292 = 8u;
         n62 = 3u;
         n223 = 1u;
-        goto L11;
+        goto L332;
     }
     case 19:
     {
-        store8(frame + 6u, 0u);
-        store16(frame + 4u, 0u);
+        store8(frame + 10u, 0u);
+        store16(frame + 8u, 0u);
         n65 = 2u;
         n217 = 1u;
         n66 = 5u;
         w20 = 39u;
-        w526 = TABLES + 4339u;
+        w75 = TABLES + 4339u;
         w95 = 13u;
-        w662 = TABLES + 4326u;
+        w152 = TABLES + 4326u;
         p292 = 6u;
-        w127 = TABLES + 4320u;
-        w34 = TABLES + 4318u;
-        goto L369;
+        w684 = TABLES + 4320u;
+        w737 = TABLES + 4318u;
+        goto L803;
     }
     case 20:
     {
-        store8(frame + 6u, 0u);
-        store16(frame + 4u, 0u);
+        store8(frame + 10u, 0u);
+        store16(frame + 8u, 0u);
         n65 = 2u;
         n217 = 1u;
         n66 = 5u;
         w20 = 46u;
-        w526 = TABLES + 4406u;
+        w75 = TABLES + 4406u;
         w95 = 20u;
-        w662 = TABLES + 4386u;
+        w152 = TABLES + 4386u;
         p292 = 6u;
-        w127 = TABLES + 4380u;
-        w34 = TABLES + 4378u;
-        goto L369;
+        w684 = TABLES + 4380u;
+        w737 = TABLES + 4378u;
+        goto L803;
     }
     case 21:
     {
-        store8(frame + 6u, 0u);
-        store16(frame + 4u, 0u);
+        store8(frame + 10u, 0u);
+        store16(frame + 8u, 0u);
         n217 = 1u;
         n66 = 5u;
         w20 = 36u;
-        w526 = TABLES + 4476u;
+        w75 = TABLES + 4476u;
         w95 = 18u;
-        w662 = TABLES + 4458u;
+        w152 = TABLES + 4458u;
         p292 = 4u;
-        w127 = TABLES + 4454u;
-        w34 = TABLES + 4452u;
+        w684 = TABLES + 4454u;
+        w737 = TABLES + 4452u;
         n65 = 1u;
-        goto L369;
+        goto L803;
     }
     case 22:
     {
-        store8(frame + 6u, 0u);
-        store16(frame + 4u, 0u);
+        store8(frame + 10u, 0u);
+        store16(frame + 8u, 0u);
         n65 = 2u;
         n217 = 1u;
         n66 = 5u;
         w20 = 66u;
-        w526 = TABLES + 4533u;
+        w75 = TABLES + 4533u;
         w95 = 13u;
-        w662 = TABLES + 4520u;
+        w152 = TABLES + 4520u;
         p292 = 6u;
-        w127 = TABLES + 4514u;
-        w34 = TABLES + 4512u;
-        goto L369;
+        w684 = TABLES + 4514u;
+        w737 = TABLES + 4512u;
+        goto L803;
     }
     case 23:
     {
-        store8(frame + 6u, 0u);
-        store16(frame + 4u, 0u);
+        store8(frame + 10u, 0u);
+        store16(frame + 8u, 0u);
         n65 = 2u;
         n217 = 1u;
         n66 = 5u;
         w20 = 66u;
-        w526 = TABLES + 4621u;
+        w75 = TABLES + 4621u;
         w95 = 14u;
-        w662 = TABLES + 4607u;
+        w152 = TABLES + 4607u;
         p292 = 6u;
-        w127 = TABLES + 4601u;
-        w34 = TABLES + 4599u;
+        w684 = TABLES + 4601u;
+        w737 = TABLES + 4599u;
         n223 = 0u;
-        goto L11;
+        goto L332;
     }
-L369:;
+L803:;
     {
         n221 = 0u;
-        goto L643;
+        goto L985;
     }
-L661:;
+L752:;
     {
         n216 = 1u;
         n223 = 0u;
-        goto L11;
+        goto L332;
     }
-L566:;
+L941:;
     {
         n64 = 1u;
         n96 = 1u;
@@ -2083,9 +2078,9 @@ L566:;
         n63 = 2u;
         n62 = 3u;
         n223 = 1u;
-        goto L11;
+        goto L332;
     }
-L115:;
+L246:;
     {
         n65 = 2u;
         n64 = 1u;
@@ -2094,70 +2089,72 @@ L115:;
         n63 = 2u;
         n62 = 2u;
         n223 = 1u;
-        goto L11;
+        goto L332;
     }
-L423:;
+L777:;
     {
         n220 = 0u;
     } /* fall through */
-L712:;
+L996:;
     {
         n96 = n220;
         n221 = 1u;
     } /* fall through */
-L643:;
+L985:;
     {
         n95 = n221;
         n222 = 0u;
     } /* fall through */
-L817:;
+L81:;
     {
         n63 = n222;
         n223 = 0u;
     } /* fall through */
-L11:;
+L332:;
     {
         n94 = n223;
         n224 = 0u;
-        goto L385;
+        goto L554;
     }
-L435:;
+L713:;
     {
         n225 = 1u;
-        goto L465;
+        goto L918;
     }
-L253:;
+L815:;
     {
         n224 = 1u;
     } /* fall through */
-L385:;
+L554:;
     {
         n93 = n224;
         n225 = 0u;
     } /* fall through */
-L465:;
+L918:;
     {
         n92 = n225;
         n218 = 0u;
     } /* fall through */
-L134:;
+L147:;
     {
         n91 = n218;
         n219 = 0u;
         break;
     }
     }
+    store8(frame + 6u, load8(frame + 14u));
+    store16(frame + 4u, load16(frame + 12u));
+    store16(frame, load16(frame + 8u));
+    store8(frame + 2u, load8(frame + 10u));
     store8(a1 + 64u, n66);
     store64(a1 + 56u, w20);
-    store64(a1 + 48u, w526);
+    store64(a1 + 48u, w75);
     store64(a1 + 40u, w95);
-    store64(a1 + 32u, w662);
+    store64(a1 + 32u, w152);
     store64(a1 + 24u, p292);
-    store64(a1 + 16u, w127);
+    store64(a1 + 16u, w684);
     store64(a1 + 8u, 2u);
-    store64(a1, w34);
-    store16(a1 + 65u, load16(frame + 8u));
-    store8(a1 + 67u, load8(frame + 10u));
+    store64(a1, w737);
     store8(a1 + 92u, n219);
     store8(a1 + 91u, n91);
     store8(a1 + 90u, n92);
@@ -2171,8 +2168,292 @@ L134:;
     store8(a1 + 76u, n64);
     store32(a1 + 72u, n65);
     store32(a1 + 68u, n217);
-    store8(a1 + 95u, load8(frame + 6u));
-    store16(a1 + 93u, load16(frame + 4u));
+    store16(a1 + 65u, load16(frame + 4u));
+    store8(a1 + 67u, load8(frame + 6u));
+    store8(a1 + 95u, load8(frame + 2u));
+    store16(a1 + 93u, load16(frame));
+}
+#endif
+
+#if UNITS & 0x20
+
+/* What holds for every call of a function, as its row says. */
+INTERNAL void language_table_traits_of(word result, u32 function) {
+    u64 room[2];
+    const word frame = (word)room;
+    u32 n216 = 0u;
+    u32 n91 = 0u;
+    u32 n62 = 0u;
+    u32 n63 = 0u;
+    u32 n217 = 0u;
+    u32 n218 = 0u;
+    u32 n64 = 0u;
+    u32 n92 = 0u;
+    u32 n65 = 0u;
+    u32 n219 = 0u;
+    u32 n220 = 0u;
+    u32 n221 = 0u;
+    store8(frame + 10u, 0u);
+    store16(frame + 8u, 0u);
+    store16(frame + 4u, 0u);
+    store8(frame + 6u, 0u);
+    u32 n93;
+    u32 n222;
+    u32 n223;
+    u32 n224;
+    u32 n225;
+    switch ((u32)((word)function & 255u) - 2u) {
+    default:
+    {
+        n93 = 0u;
+        store8(frame + 10u, 0u);
+        store16(frame + 8u, 0u);
+        n219 = 1u;
+        goto L139;
+    }
+    case 0:
+    {
+        n93 = 0u;
+        store8(frame + 10u, 0u);
+        store16(frame + 8u, 0u);
+        n221 = 1u;
+        goto L606;
+    }
+    case 1:
+    {
+        n93 = 0u;
+        store8(frame + 10u, 0u);
+        store16(frame + 8u, 0u);
+        n220 = 1u;
+        goto L606;
+    }
+    case 2:
+    {
+        store8(frame + 10u, 0u);
+        store16(frame + 8u, 0u);
+        n93 = 1u;
+        goto L139;
+    }
+    case 3:
+    {
+        n93 = 0u;
+        store8(frame + 10u, 0u);
+        store16(frame + 8u, 0u);
+        n217 = 1u;
+        n62 = 2u;
+        n63 = 1u;
+        n216 = 1u;
+        break;
+    }
+    case 4:
+    {
+        n93 = 0u;
+        store8(frame + 10u, 0u);
+        store16(frame + 8u, 0u);
+        n217 = 1u;
+        goto L548;
+    }
+    case 5:
+    {
+        n93 = 0u;
+        store8(frame + 10u, 0u);
+        store16(frame + 8u, 0u);
+        n63 = 2u;
+        n217 = 1u;
+        n222 = 0u;
+        goto L555;
+    }
+    case 6:
+    {
+        n93 = 0u;
+        store8(frame + 10u, 0u);
+        store16(frame + 8u, 0u);
+        n217 = 1u;
+        n63 = 3u;
+        n223 = 0u;
+        goto L21;
+    }
+    case 7:
+    {
+        n93 = 0u;
+        store8(frame + 10u, 0u);
+        store16(frame + 8u, 0u);
+        n62 = 1u;
+        n63 = 3u;
+        n216 = 1u;
+        break;
+    }
+    case 8:
+    {
+        n93 = 0u;
+        store8(frame + 10u, 0u);
+        store16(frame + 8u, 0u);
+        n220 = 1u;
+        goto L296;
+    }
+    case 9:
+    {
+        n93 = 0u;
+        store8(frame + 10u, 0u);
+        store16(frame + 8u, 0u);
+        n65 = 1u;
+        goto L548;
+    }
+    case 10:
+    case 11:
+    {
+        n93 = 0u;
+        store8(frame + 10u, 0u);
+        store16(frame + 8u, 0u);
+        n218 = 1u;
+        n64 = 2u;
+        n65 = 2u;
+        n217 = 1u;
+        n91 = 1u;
+        n63 = 1u;
+        n62 = 2u;
+        n216 = 1u;
+        break;
+    }
+    case 12:
+    case 13:
+    {
+        n93 = 0u;
+        store8(frame + 10u, 0u);
+        store16(frame + 8u, 0u);
+        n218 = 1u;
+        n65 = 2u;
+        n64 = 3u;
+        n217 = 1u;
+        n91 = 1u;
+        n63 = 1u;
+        goto L772;
+    }
+    case 14:
+    {
+        n93 = 0u;
+        store8(frame + 10u, 0u);
+        store16(frame + 8u, 0u);
+        n217 = 1u;
+        goto L296;
+    }
+    case 15:
+    case 16:
+    {
+        n93 = 0u;
+        store8(frame + 10u, 0u);
+        store16(frame + 8u, 0u);
+        n92 = 1u;
+        n62 = 4u;
+        goto L583;
+    }
+    case 17:
+    {
+        n93 = 0u;
+        store16(frame + 4u, 0u);
+        store8(frame + 6u, 0u);
+        store16(frame + 8u, 0u);
+        store8(frame + 10u, 0u);
+        n218 = 1u;
+        n64 = 3u;
+        goto L772;
+    }
+    case 20:
+    {
+        n93 = 0u;
+        store8(frame + 10u, 0u);
+        store16(frame + 8u, 0u);
+        n62 = 1u;
+        goto L583;
+    }
+    case 18:
+    case 19:
+    case 21:
+    {
+        store8(frame + 10u, 0u);
+        store16(frame + 8u, 0u);
+        n216 = 1u;
+        n62 = 2u;
+        n224 = 0u;
+        goto L586;
+    }
+    case 22:
+    {
+        store8(frame + 10u, 0u);
+        store16(frame + 8u, 0u);
+        n216 = 1u;
+        n62 = 2u;
+        n224 = 0u;
+    } /* fall through */
+L586:;
+    {
+        n93 = n224;
+        break;
+    }
+L583:;
+    {
+        n216 = 1u;
+        break;
+    }
+L772:;
+    {
+        n62 = 3u;
+        n216 = 1u;
+        break;
+    }
+L296:;
+    {
+        n63 = 1u;
+        n225 = 1u;
+        goto L25;
+    }
+L548:;
+    {
+        n63 = 1u;
+        n222 = 1u;
+    } /* fall through */
+L555:;
+    {
+        n91 = n222;
+        break;
+    }
+L606:;
+    {
+        n225 = 0u;
+    } /* fall through */
+L25:;
+    {
+        n91 = n225;
+        n62 = 1u;
+        n216 = 1u;
+        break;
+    }
+L139:;
+    {
+        n223 = 0u;
+    } /* fall through */
+L21:;
+    {
+        n92 = n223;
+        n216 = 1u;
+        break;
+    }
+    }
+    store8(result + 24u, n93);
+    store8(result + 23u, n221);
+    store8(result + 22u, n220);
+    store8(result + 21u, n219);
+    store8(result + 20u, n92);
+    store32(result + 16u, n64);
+    store32(result + 12u, n218);
+    store8(result + 11u, n65);
+    store8(result + 10u, n217);
+    store8(result + 9u, n91);
+    store8(result + 8u, n63);
+    store32(result + 4u, n62);
+    store32(result, n216);
+    store16(result + 25u, load16(frame + 8u));
+    store8(result + 27u, load8(frame + 10u));
 }
 #endif
 
@@ -3814,7 +4095,7 @@ static void space_space_Space_write_part(word self, u32 at, u32 a, u32 b) {
 
 /* ---- The crate trac_values ---- */
 
-#if UNITS & 0x5
+#if UNITS & 0x9
 
 /* The octal digit at place `k`, from 0 at the left, of the bit string that `digits` gives, shifted by `by` bits, to
  * the left unless `by` is negative; None past its end. */
@@ -4902,7 +5183,7 @@ static INLINE void store_borders_tag_borders(word space, u32 part_from, u32 part
 }
 #endif
 
-#if UNITS & 0x19
+#if UNITS & 0x1b
 
 /* Does what `find_between` does as a function of its own, whose loop has all registers. */
 static INLINE void store_form_cells_find_between_by_call(word a1, word a2, u32 a3, u32 a4, u32 a5, word a6, u64 a7) {
@@ -5071,6 +5352,9 @@ INTERNAL void store_form_cells_find_from_last(word a1, word a2, u32 a3, u32 a4, 
     store32(a1, n216);
     store64(a1 + 4u, w68);
 }
+#endif
+
+#if UNITS & 0x3
 
 /* trac_store::item_copies::load_items_over_index. */
 INTERNAL void store_item_copies_load_items_over_index(word result, word space, u32 items_from, u32 items_to) {
@@ -6192,7 +6476,7 @@ INTERNAL void forms_index_index_worthwhile(word space, u32 count, word search_co
 }
 #endif
 
-#if UNITS & 0x57
+#if UNITS & 0x9f
 
 /* The form, to be read. */
 static INLINE void forms_work_Work_stored(word result, word self, u32 form) {
@@ -6432,7 +6716,7 @@ static INLINE void forms_work_Work_next_char(word result, word self, u32 form, u
 }
 #endif
 
-#if UNITS & 0x4d
+#if UNITS & 0x8d
 
 /* trac_forms::work::Work::place_of. */
 static INLINE u32 forms_work_Work_place_of(word self, u32 k) {
@@ -6496,7 +6780,7 @@ static INLINE u32 forms_work_Work_place_of(word self, u32 k) {
 }
 #endif
 
-#if UNITS & 0xd
+#if UNITS & 0x7
 
 /* The form at place `k` of the list, from 0, in the order in which the forms were defined. */
 static INLINE void forms_work_Work_form(word result, word self, u32 k) {
@@ -7240,7 +7524,7 @@ static INLINE u32 forms_work_Work_pointer(word self, u32 form) {
 }
 #endif
 
-#if UNITS & 0x65
+#if UNITS & 0xc5
 
 /* Removes all but the first `n` cells of neutral. */
 static INLINE void forms_work_Work_cut_neutral(word self, u32 n) {
@@ -7820,7 +8104,7 @@ INTERNAL void functions_arguments_Arguments_next(word result, word self, word wo
 }
 
 /* Copies a part of the neutral string that is a text to the end of that string. */
-static u32 functions_arguments_put_part(word work, u32 part_from, u32 part_to) {
+INTERNAL u32 functions_arguments_put_part(word work, u32 part_from, u32 part_to) {
     const u32 n150 = part_to - part_from;
     u32 n404 = load32(work + 16u);
     u32 n509 = load32(work + 20u) + n404;
@@ -9803,6 +10087,9 @@ L350:;
     store32(result + 4u, n69);
     store8(result + 1u, 0u);
 }
+#endif
+
+#if UNITS & 0x9
 
 /* `bu,A,B`: */
 INTERNAL void functions_bit_strings_union(word result, word work, word arguments) {
@@ -9968,9 +10255,6 @@ INTERNAL void functions_bit_strings_complement(word result, word work, word argu
     store16(result, load16(frame + 56u));
     store32(result + 4u, load32(frame + 60u));
 }
-#endif
-
-#if UNITS & 0x9
 
 /* `bs,D,O`: */
 INTERNAL void functions_bit_strings_shift(word result, word work, word arguments) {
@@ -10098,9 +10382,6 @@ INTERNAL void functions_bit_strings_shift(word result, word work, word arguments
     store16(result, load16(frame + 56u));
     store32(result + 4u, load32(frame + 60u));
 }
-#endif
-
-#if UNITS & 0x5
 
 /* `br,D,O`: */
 INTERNAL void functions_bit_strings_rotate(word result, word work, word arguments) {
@@ -10197,7 +10478,7 @@ INTERNAL void functions_bit_strings_rotate(word result, word work, word argument
 
 /* The prefix of an argument, which is what stands before its digits, and the octal digits of a result behind it are
  * the value of a call. */
-INTERNAL void functions_bit_strings_give_bits(word a1, word a2, u32 a3, u32 a4, word a5) {
+static void functions_bit_strings_give_bits(word a1, word a2, u32 a3, u32 a4, word a5) {
     u64 room[4];
     const word frame = (word)room;
     const u32 n916 = load32(a5 + 16u);
@@ -10425,6 +10706,9 @@ INTERNAL void functions_bit_strings_give_bits(word a1, word a2, u32 a3, u32 a4, 
     store16(a1, 1u);
     store32(a1 + 4u, 0u);
 }
+#endif
+
+#if UNITS & 0x5
 
 /* `eq,A,B,X,Y`: */
 INTERNAL void functions_comparing_equal(word result, word work, word arguments) {
@@ -14978,7 +15262,7 @@ L572:;
 
 /* ---- The crate trac_core ---- */
 
-#if UNITS & 0x5
+#if UNITS & 0x9
 
 /* What the function of the innermost call answers, which is `function`. */
 INTERNAL void core_call_answer(word a1, word a2, word a3, u32 a4, u32 a5, word a6, word a7, word a8) {
@@ -15916,9 +16200,6 @@ L914:;
     store32(a1 + 4u, n216);
     store8(a1 + 1u, n133);
 }
-#endif
-
-#if UNITS & 0x9
 
 /* Removes the call whose mark stands at the place. */
 INTERNAL void core_delivery_deliver(word work, u32 place, u32 from) {
@@ -16151,7 +16432,7 @@ INTERNAL void core_delivery_deliver(word work, u32 place, u32 from) {
 }
 #endif
 
-#if UNITS & 0x40
+#if UNITS & 0x80
 
 /* Puts the display of the items of a form from a place up to another into a sink. */
 static u32 core_display_show_items(word form, u32 from, u32 to) {
@@ -16466,7 +16747,7 @@ static u32 core_display_show_items2(word form, u32 from, u32 to, word sink) {
 }
 #endif
 
-#if UNITS & 0x3
+#if UNITS & 0x11
 
 /* Puts the display of the items of a form from a place up to another into a sink. (A copy for other types.) */
 INTERNAL u32 core_display_show_items3(word form, u32 from, u32 to, word sink) {
@@ -16970,7 +17251,7 @@ L104:;
 }
 #endif
 
-#if UNITS & 0x20
+#if UNITS & 0x40
 
 /* Puts the display of the items of a form from a place up to another into a sink. (A copy for other types.) */
 static u32 core_display_show_items5(word form, u32 from, u32 to, word sink) {
@@ -17386,9 +17667,6 @@ INTERNAL void core_idling_begin_idling(word work) {
     store32(p131, n864 + 7u);
     store32(p50, n289);
 }
-#endif
-
-#if UNITS & 0x9
 
 /* Makes at most `most` steps of a run that isn't over and has these counters. */
 INTERNAL void core_machine_advancing_go_on(word result, word work, word meta, u32 no_comma_from, word at, u64 most, u32
@@ -19445,6 +19723,9 @@ INTERNAL u32 core_machine_printing_call_len(word work, u32 call_place, u32 call_
     n216 = core_display_display_len(frame + 56u);
     return n216;
 }
+#endif
+
+#if UNITS & 0x3
 
 /* The form whose name is these characters, a cell for each, to be looked at. */
 INTERNAL void core_machine_Machine_form_named(word result, word self, word name, u64 name_len) {
@@ -19937,6 +20218,9 @@ L675:;
     store64(result + 8u, w69);
     store64(result, (word)n42 & 255u);
 }
+#endif
+
+#if UNITS & 0x11
 
 /* The function that the next step performs. */
 INTERNAL void core_machine_Machine_next_function(word result, word self) {
@@ -19999,7 +20283,7 @@ INTERNAL void core_machine_Machine_next_function(word result, word self) {
 }
 #endif
 
-#if UNITS & 0x70
+#if UNITS & 0xc2
 
 /* The rule that the next step follows, unless the run is over or ends before it. */
 static INLINE u32 core_machine_Machine_next_rule(word self) {
@@ -20957,7 +21241,7 @@ INTERNAL u64 core_scan_add_characters(word work, u64 most, word hints) {
 }
 #endif
 
-#if UNITS & 0x19
+#if UNITS & 0x15
 
 /* A comma is deleted. */
 static INLINE u64 core_scan_begin_argument(word work, u64 most, word hints) {
@@ -21386,7 +21670,7 @@ static void image_reading_behind_form(word result, u64 text, u64 text_len) {
 
 /* ---- The crate trac_events ---- */
 
-#if UNITS & 0x40
+#if UNITS & 0x20
 
 /* Argument `k` of a call, by the cells of all arguments; argument 0 names the function. */
 static INLINE void events_call_argument(word result, u64 arguments, u64 arguments_len) {
@@ -21436,7 +21720,7 @@ static INLINE void events_call_argument(word result, u64 arguments, u64 argument
 
 /* ---- The crate trac_warnings ---- */
 
-#if UNITS & 0x20
+#if UNITS & 0x40
 
 /* Looks at the arguments that `cl` gives a form: */
 INTERNAL u32 warnings_arguments_look_at_arguments(word warnings, u64 alloc, word form, word ending) {
@@ -22030,7 +22314,7 @@ INTERNAL u32 warnings_arguments_look_at_arguments(word warnings, u64 alloc, word
 }
 #endif
 
-#if UNITS & 0x80
+#if UNITS & 0x60
 
 /* trac_warnings::blanks::before_last_blanks. */
 static INLINE void warnings_blanks_before_last_blanks(word result, u64 cells, u64 cells_len) {
@@ -22103,249 +22387,256 @@ static INLINE void warnings_blanks_before_last_blanks(word result, u64 cells, u6
     store64(result + 8u, w68);
     store64(result, cells);
 }
+#endif
+
+#if UNITS & 0x20
 
 /* Looks at the form whose body a call gives, takes apart or segments. */
-static u32 warnings_bodies_look_at_body(word a1, u64 a2, u32 a3, u32 a4, word a5, word a6) {
-    u64 room[18];
+static u32 warnings_bodies_look_at_body(word warnings, u64 alloc, u32 function, word form, word ending) {
+    u64 room[10];
     const word frame = (word)room;
-    u32 n86 = 0u;
-    u64 w68 = 0u;
-    u64 w69 = 0u;
+    u32 n10 = 0u;
+    u64 w36 = 0u;
+    u64 w13 = 0u;
     store64(frame + 32u, 0u);
     store64(frame + 24u, 0u);
     store64(frame + 16u, 0u);
     store64(frame + 8u, 0u);
-    const u32 n808 = a3 & 255u;
-    u64 w345;
-    u64 w404;
-    switch (n808 - 6u) {
+    const u32 n939 = function & 255u;
+    u64 w9;
+    u64 w326;
+    switch (n939 - 6u) {
     case 0:
     {
         store64(frame + 48u, 0u);
         store64(frame + 56u, 0u);
-        store64(frame + 64u, a2);
-        const word p504 = load32(a5 + 24u);
-        store64(frame + 40u, frame + 140u);
-        if (p504 != 0u) {
-            word p404 = frame + 140u;
-            u64 w70 = 0u;
+        store64(frame + 64u, alloc);
+        const word p452 = load32(form + 24u);
+        store64(frame + 40u, frame + 76u);
+        if (p452 != 0u) {
+            word p326 = frame + 76u;
+            u64 w68 = 0u;
             do {
-                if (load64(a5 + 24u) > w70) {
+                if (load64(form + 24u) > w68) {
                     u32 n216 = 0u;
                     u32 n217 = 1u;
-                    u32 n140 = 0u;
-                    const word p716 = load_word(a5 + 16u) + (word)w68;
-                    switch (load8(p716) - 1u) {
+                    u32 n98 = 0u;
+                    const word p950 = load_word(form + 16u) + (word)w36;
+                    switch (load8(p950) - 1u) {
                     case 0:
                     case 1:
                     case 3:
                         break;
                     default:
                     {
-                        n216 = load8(p716 + 1u);
+                        n216 = load8(p950 + 1u);
                         n217 = 0u;
                         break;
                     }
                     case 2:
                     {
-                        n140 = load32(p716 + 4u);
+                        n98 = load32(p950 + 4u);
                         break;
                     }
                     }
-                    if (load64(frame + 56u) == w69) {
+                    if (load64(frame + 56u) == w13) {
                         if (std_alloc_vec_Vec_grow_amortized6(frame + 40u) == 0u) {
-                            const u64 w593 = load64(frame + 56u);
-                            if (w593 == 0u) {
-                                n86 = 1u;
-                                return n86;
+                            const u64 w37 = load64(frame + 56u);
+                            if (w37 == 0u) {
+                                n10 = 1u;
+                                return n10;
                             }
-                            const word p345 = load_word(frame + 64u);
+                            const word p33 = load_word(frame + 64u);
                             word p370;
-                            if (load64(p345 + 32u) != 1u) {
-                                p370 = p345 + 40u;
+                            if (load64(p33 + 32u) != 1u) {
+                                p370 = p33 + 40u;
                                 store64(p370, load64(p370) - 1u);
-                                n86 = 1u;
-                                return n86;
+                                n10 = 1u;
+                                return n10;
                             }
-                            const word p678 = load_word(p345 + 24u);
+                            const word p678 = load_word(p33 + 24u);
                             const u64 w729 = load64(p678 + 32u);
                             if (load64(p678) + w729 != load64(frame + 40u)) {
-                                p370 = p345 + 40u;
+                                p370 = p33 + 40u;
                                 store64(p370, load64(p370) - 1u);
-                                n86 = 1u;
-                                return n86;
+                                n10 = 1u;
+                                return n10;
                             }
-                            store64(p678 + 32u, (w593 << 3) + w729);
-                            p370 = p345 + 40u;
+                            store64(p678 + 32u, (w37 << 3) + w729);
+                            p370 = p33 + 40u;
                             store64(p370, load64(p370) - 1u);
-                            n86 = 1u;
-                            return n86;
+                            n10 = 1u;
+                            return n10;
                         }
-                        p404 = load_word(frame + 40u);
-                        w69 = load64(frame + 48u);
+                        p326 = load_word(frame + 40u);
+                        w13 = load64(frame + 48u);
                     }
-                    const word p605 = ((word)w69 << 3) + p404;
+                    const word p605 = ((word)w13 << 3) + p326;
                     store8(p605, n217);
-                    store32(p605 + 4u, n140);
+                    store32(p605 + 4u, n98);
                     store8(p605 + 1u, n216);
-                    w69 = w69 + 1u;
-                    store64(frame + 48u, w69);
+                    w13 = w13 + 1u;
+                    store64(frame + 48u, w13);
                 }
-                w68 = w68 + 8u;
-                w70 = w70 + 1u;
-            } while (w70 != p504);
-            w345 = load64(frame + 64u);
-            w68 = load64(frame + 56u);
-            w404 = load64(frame + 40u);
-            if (warnings_segmented_look_at_texts(a1, a2, (word)w404, w69, a6) & 255u) {
-                n86 = 1u;
-                if (w68 == 0u) {
-                    return n86;
+                w36 = w36 + 8u;
+                w68 = w68 + 1u;
+            } while (w68 != p452);
+            w9 = load64(frame + 64u);
+            w36 = load64(frame + 56u);
+            w326 = load64(frame + 40u);
+            if (warnings_segmented_look_at_texts(warnings, alloc, (word)w326, w13, ending) & 255u) {
+                n10 = 1u;
+                if (w36 == 0u) {
+                    return n10;
                 }
                 word p891;
-                if (load64((word)w345 + 32u) != 1u) {
-                    p891 = (word)w345 + 40u;
+                if (load64((word)w9 + 32u) != 1u) {
+                    p891 = (word)w9 + 40u;
                     store64(p891, load64(p891) - 1u);
-                    return n86;
+                    return n10;
                 }
-                const word p775 = load_word((word)w345 + 24u);
+                const word p775 = load_word((word)w9 + 24u);
                 const u64 w248 = load64(p775 + 32u);
-                if (load64(p775) + w248 != w404) {
-                    p891 = (word)w345 + 40u;
+                if (load64(p775) + w248 != w326) {
+                    p891 = (word)w9 + 40u;
                     store64(p891, load64(p891) - 1u);
-                    return n86;
+                    return n10;
                 }
-                store64(p775 + 32u, (w68 << 3) + w248);
-                p891 = (word)w345 + 40u;
+                store64(p775 + 32u, (w36 << 3) + w248);
+                p891 = (word)w9 + 40u;
                 store64(p891, load64(p891) - 1u);
-                return n86;
+                return n10;
             }
             break;
         }
-        w404 = frame + 140u;
-        w345 = a2;
-        if ((warnings_segmented_look_at_texts(a1, w345, frame + 140u, 0u, a6) & 255u) == 0u)
+        w326 = frame + 76u;
+        w9 = alloc;
+        if ((warnings_segmented_look_at_texts(warnings, w9, frame + 76u, 0u, ending) & 255u) == 0u)
             break;
-        n86 = 1u;
-        return n86;
+        n10 = 1u;
+        return n10;
     }
     case 5:
     {
-        n86 = warnings_bodies_look_at_called(a1, a2, a5, a6) & 255u;
-        return n86;
+        n10 = warnings_bodies_look_at_called(warnings, alloc, form, ending) & 255u;
+        return n10;
     }
     default:
     {
-        fill(frame + 40u, 0u, 96u);
-        language_table_row(frame + 40u, a3, a4);
+        store32(frame + 64u, 0u);
+        store64(frame + 56u, 0u);
+        store64(frame + 48u, 0u);
+        store64(frame + 40u, 0u);
+        language_table_traits_of(frame + 40u, function);
         u32 n112;
-        if (n808 != 15u) {
-            if (load8(frame + 119u) == 2u) {
-                if (load32(a5 + 24u) > load32(a5 + 32u)) {
-                    return n86;
+        if (n939 != 15u) {
+            if (load8(frame + 51u) == 2u) {
+                if (load32(form + 24u) > load32(form + 32u)) {
+                    return n10;
                 }
                 n112 = 19u;
-                if (warnings_bodies_provides(a3, a4, a6) == 0u) {
-                    store64(frame + 8u, load64(a6 + 16u));
-                    store64(frame + 16u, load8(a6 + 24u));
-                    store64(frame + 24u, load64(a6 + 32u));
-                    store64(frame + 32u, load64(a6 + 40u));
-                    n86 = warnings_performed_warn(a1, a2, n112, frame + 8u, load_word(a5), load64(a5 + 8u)) & 255u;
-                    return n86;
+                if (warnings_bodies_provides(function, ending) == 0u) {
+                    store64(frame + 8u, load64(ending + 16u));
+                    store64(frame + 16u, load8(ending + 24u));
+                    store64(frame + 24u, load64(ending + 32u));
+                    store64(frame + 32u, load64(ending + 40u));
+                    n10 = warnings_performed_warn(warnings, alloc, n112, frame + 8u, load_word(form), load64(form +
+                        8u)) & 255u;
+                    return n10;
                 }
-                return n86;
+                return n10;
             }
         }
-        if ((a3 & 255u) != 15u) {
-            return n86;
+        if ((function & 255u) != 15u) {
+            return n10;
         }
-        if (warnings_bodies_provides(15u, a4, a6)) {
-            return n86;
+        if (warnings_bodies_provides(15u, ending)) {
+            return n10;
         }
-        const word p159 = load_word(a6);
-        u64 w951;
+        const word p724 = load_word(ending);
+        u64 w77;
         {
-            w951 = load64(a6 + 8u);
-            if (w951 != 0u) {
-                word p160 = p159;
-                while (load8(p160) != 2u) {
-                    p160 = p160 + 8u;
-                    w68 = w68 + 1u;
-                    if (w68 == w951) {
-                        w68 = w951;
+            w77 = load64(ending + 8u);
+            if (w77 != 0u) {
+                word p725 = p724;
+                while (load8(p725) != 2u) {
+                    p725 = p725 + 8u;
+                    w36 = w36 + 1u;
+                    if (w36 == w77) {
+                        w36 = w77;
                         break;
                     }
                 }
             }
         }
-        const u64 w301 = w68 + 1u;
-        const u32 n733 = w68 < w951;
-        const word p645 = n733 ? ((word)w301 << 3) + p159 : TABLES + 5032u;
-        u64 w441;
+        const u64 w301 = w36 + 1u;
+        const u32 n100 = w36 < w77;
+        const word p751 = n100 ? ((word)w301 << 3) + p724 : TABLES + 5032u;
+        u64 w78;
         {
-            const u64 w746 = w951 - w301;
-            w441 = n733 ? w746 : 0u;
-            if (w441 != 0u) {
-                word p264 = p645;
-                while (load8(no_address(p264, 1u)) != 2u) {
-                    p264 = p264 + 8u;
-                    w69 = w69 + 1u;
-                    if (w69 == w441) {
-                        w69 = w746;
+            const u64 w14 = w77 - w301;
+            w78 = n100 ? w14 : 0u;
+            if (w78 != 0u) {
+                word p628 = p751;
+                while (load8(no_address(p628, 1u)) != 2u) {
+                    p628 = p628 + 8u;
+                    w13 = w13 + 1u;
+                    if (w13 == w78) {
+                        w13 = w14;
                         break;
                     }
                 }
             }
         }
-        const u32 n308 = w69 >= w441;
+        const u32 n308 = w13 >= w78;
         if (n308) {
-            return n86;
+            return n10;
         }
-        const u64 w302 = w69 + 1u;
-        const u64 w966 = w441 - w302;
+        const u64 w302 = w13 + 1u;
+        const u64 w966 = w78 - w302;
         if (w966 == 0u) {
-            return n86;
+            return n10;
         }
-        u64 w70 = 0u;
-        const word p838 = n308 ? TABLES + 5032u : ((word)w302 << 3) + p645;
-        word p366 = p838;
+        u64 w68 = 0u;
+        const word p855 = n308 ? TABLES + 5032u : ((word)w302 << 3) + p751;
+        word p366 = p855;
         {
             {
                 while (load8(no_address(p366, 1u)) != 2u) {
                     p366 = p366 + 8u;
-                    w70 = w70 + 1u;
-                    if (w70 == w966) {
-                        w70 = w966;
-                        goto L980;
+                    w68 = w68 + 1u;
+                    if (w68 == w966) {
+                        w68 = w966;
+                        goto L217;
                     }
                 }
             }
-            if (w70 == 0u) {
-                return n86;
+            if (w68 == 0u) {
+                return n10;
             }
         }
-    L980:;
-        const u32 n136 = load32(a5 + 32u);
-        const u64 w544 = load64(a5 + 24u);
-        const u32 n718 = (u32)(word)w544;
-        if (n718 <= n136) {
-            return n86;
+    L217:;
+        const u32 n576 = load32(form + 32u);
+        const u64 w854 = load64(form + 24u);
+        const u32 n491 = (u32)(word)w854;
+        if (n491 <= n576) {
+            return n10;
         }
-        u64 w159 = n136;
-        word p759 = load_word(a5 + 16u) + ((word)w159 << 3);
-        const word p556 = (word)w544 & 4294967295u;
+        u64 w303 = n576;
+        word p584 = load_word(form + 16u) + ((word)w303 << 3);
+        const word p89 = (word)w854 & 4294967295u;
         do {
-            u64 w424 = w159 < w544 ? w544 : w159;
-            word p353 = p759;
-            u64 w556 = p556;
-            word p367 = p838;
-            u64 w353 = w70;
+            u64 w209 = w303 < w854 ? w854 : w303;
+            word p353 = p584;
+            u64 w89 = p89;
+            word p367 = p855;
+            u64 w353 = w68;
             {
                 for (;;) {
                     if (w353 == 0u) {
-                        return n86;
+                        return n10;
                     }
-                    if (w424 == w159)
+                    if (w209 == w303)
                         break;
                     u32 n216 = 0u;
                     u32 n217 = 0u;
@@ -22358,173 +22649,180 @@ static u32 warnings_bodies_look_at_body(word a1, u64 a2, u32 a3, u32 a4, word a5
                     }
                     if (n357)
                         break;
-                    if ((n217 & 255u) != (n216 & 255u))
+                    if ((n216 & 255u) != n217)
                         break;
                     p367 = p367 + 8u;
                     w353 = w353 - 1u;
                     p353 = p353 + 8u;
-                    w424 = w424 - 1u;
-                    w556 = w556 - 1u;
-                    if (w159 == w556) {
+                    w209 = w209 - 1u;
+                    w89 = w89 - 1u;
+                    if (w303 == w89) {
                         if (w353 != 0u)
                             break;
-                        return n86;
+                        return n10;
                     }
                 }
             }
-            p759 = p759 + 8u;
+            p584 = p584 + 8u;
             n112 = 20u;
-            w159 = w159 + 1u;
-        } while ((u32)(word)w159 != n718);
-        store64(frame + 8u, load64(a6 + 16u));
-        store64(frame + 16u, load8(a6 + 24u));
-        store64(frame + 24u, load64(a6 + 32u));
-        store64(frame + 32u, load64(a6 + 40u));
-        n86 = warnings_performed_warn(a1, a2, n112, frame + 8u, load_word(a5), load64(a5 + 8u)) & 255u;
-        return n86;
+            w303 = w303 + 1u;
+        } while ((u32)(word)w303 != n491);
+        store64(frame + 8u, load64(ending + 16u));
+        store64(frame + 16u, load8(ending + 24u));
+        store64(frame + 24u, load64(ending + 32u));
+        store64(frame + 32u, load64(ending + 40u));
+        n10 = warnings_performed_warn(warnings, alloc, n112, frame + 8u, load_word(form), load64(form + 8u)) & 255u;
+        return n10;
     }
     }
-    n86 = warnings_segmented_look_for_texts(a1, a2, load_word(a5), load64(a5 + 8u), (word)w404, w69, a6) & 255u;
-    if (w68 == 0u) {
-        return n86;
+    n10 = warnings_segmented_look_for_texts(warnings, alloc, load_word(form), load64(form + 8u), (word)w326, w13,
+        ending) & 255u;
+    if (w36 == 0u) {
+        return n10;
     }
-    if (load64((word)w345 + 32u) == 1u) {
-        const word p775 = load_word((word)w345 + 24u);
+    if (load64((word)w9 + 32u) == 1u) {
+        const word p775 = load_word((word)w9 + 24u);
         const u64 w248 = load64(p775 + 32u);
-        if (load64(p775) + w248 == w404) {
-            store64(p775 + 32u, (w68 << 3) + w248);
+        if (load64(p775) + w248 == w326) {
+            store64(p775 + 32u, (w36 << 3) + w248);
         }
     }
-    const word p891 = (word)w345 + 40u;
+    const word p891 = (word)w9 + 40u;
     store64(p891, load64(p891) - 1u);
-    return n86;
+    return n10;
 }
 
 /* trac_warnings::bodies::provides. */
-INTERNAL u32 warnings_bodies_provides(u32 a1, u32 a2, word a3) {
-    u64 room[12];
+static u32 warnings_bodies_provides(u32 function, word ending) {
+    u64 room[4];
     const word frame = (word)room;
-    u64 w116 = load64(a3 + 8u);
-    word p136 = load_word(a3);
-    fill(frame, 0u, 96u);
-    language_table_row(frame, a1, a2);
-    u32 n162;
+    u64 w77 = load64(ending + 8u);
+    word p491 = load_word(ending);
+    store32(frame + 24u, 0u);
+    store64(frame + 16u, 0u);
+    store64(frame + 8u, 0u);
+    store64(frame, 0u);
+    language_table_traits_of(frame, function);
+    u32 n216;
     {
-        if (load8(frame + 80u) == 1u) {
-            const u32 n754 = load32(frame + 84u);
-            if (n754) {
-                u32 n216 = 0u;
+        if (load8(frame + 12u) == 1u) {
+            const u32 n896 = load32(frame + 16u);
+            if (n896) {
+                u32 n217 = 0u;
                 do {
                     u64 w68 = 0u;
                     {
-                        if (w116 != 0u) {
-                            word p353 = p136;
+                        if (w77 != 0u) {
+                            word p353 = p491;
                             while (load8(no_address(p353, 1u)) != 2u) {
                                 p353 = p353 + 8u;
                                 w68 = w68 + 1u;
-                                if (w116 == w68) {
-                                    w68 = w116;
+                                if (w77 == w68) {
+                                    w68 = w77;
                                     break;
                                 }
                             }
                         }
                     }
                     const u64 w301 = w68 + 1u;
-                    const u32 n909 = w68 < w116;
-                    w116 = n909 ? w116 - w301 : 0u;
-                    p136 = n909 ? ((word)w301 << 3) + p136 : TABLES + 5032u;
-                    n216 = n216 + 1u;
-                } while (n216 != n754);
+                    const u32 n909 = w68 < w77;
+                    w77 = n909 ? w77 - w301 : 0u;
+                    p491 = n909 ? ((word)w301 << 3) + p491 : TABLES + 5032u;
+                    n217 = n217 + 1u;
+                } while (n217 != n896);
             }
-            if (w116 != 0u) {
+            if (w77 != 0u) {
                 u64 w68 = 0u;
                 for (;;) {
-                    if (load8(no_address(p136, 1u)) == 2u) {
+                    if (load8(no_address(p491, 1u)) == 2u) {
                         if (w68 == 0u)
                             break;
-                        n162 = 1u;
-                        return n162;
+                        n216 = 1u;
+                        return n216;
                     }
-                    p136 = p136 + 8u;
+                    p491 = p491 + 8u;
                     w68 = w68 + 1u;
-                    if (w116 == w68) {
-                        n162 = 1u;
-                        return n162;
+                    if (w77 == w68) {
+                        n216 = 1u;
+                        return n216;
                     }
                 }
             }
         }
     }
-    const word p970 = load_word(a3 + 64u);
-    const u64 w769 = load64(a3 + 72u);
-    store8(frame + 2u, 0u);
-    store16(frame, 0u);
-    n162 = 0u;
-    if (w769 <= 1u) {
-        return n162;
+    const word p980 = load_word(ending + 64u);
+    const u64 w191 = load64(ending + 72u);
+    store32(frame + 24u, 0u);
+    store64(frame + 16u, 0u);
+    store64(frame + 8u, 0u);
+    store64(frame, 0u);
+    store8(frame + 30u, 0u);
+    store16(frame + 28u, 0u);
+    n216 = 0u;
+    if (w191 <= 1u) {
+        return n216;
     }
     do {
         {
-            if (w769 != 2u) {
-                if (load8(p970 + 16u) != 2u) {
-                    store8(frame + 2u, 0u);
-                    store16(frame, 0u);
-                    goto L28;
-                }
-            }
-            functions_function_function_of(frame, p970, p970 + 8u);
-            if (load8(frame) == 1u) {
-                const u32 n218 = load8(frame + 2u);
-                const u32 n722 = load8(frame + 1u);
-                u32 n216 = 0u;
-                fill(frame, 0u, 96u);
-                language_table_row(frame, n722, n218);
-                if ((load8(frame + 88u) & 1u) != 0u) {
-                    u64 w10 = w769 & 18446744073709551614ull;
-                    const word p831 = (word)w769 & 1u;
-                    word p153 = p970;
-                    do {
-                        const u32 n630 = n216 + 1u;
-                        const u32 n350 = load8(p153) == 2u ? (n630 ? n630 : 4294967295u) : n216;
-                        const u32 n785 = n350 + 1u;
-                        n216 = load8(p153 + 8u) == 2u ? (n785 ? n785 : 4294967295u) : n350;
-                        p153 = p153 + 16u;
-                        w10 = w10 - 2u;
-                    } while (w10 != 0u);
-                    u32 n91;
-                    if (p831 == 0u) {
-                        n91 = n216;
-                    } else {
-                        const u32 n630 = n216 + 1u;
-                        n91 = load8(p153) == 2u ? (n630 ? n630 : 4294967295u) : n216;
-                    }
-                    if (n91 < 3u) {
-                        n162 = 1u;
-                        return n162;
+            do {
+                if (w191 != 2u) {
+                    if (load8(p980 + 16u) != 2u) {
+                        store8(frame + 2u, 0u);
+                        store16(frame, 0u);
+                        goto L28;
                     }
                 }
-            }
-            store8(frame + 2u, 0u);
-            store16(frame, 0u);
-            if (w769 == 2u)
+                functions_function_function_of(frame + 28u, p980, p980 + 8u);
+                if (load8(frame + 28u) == 1u) {
+                    language_table_traits_of(frame, load8(frame + 29u));
+                    if (load8(frame + 20u) == 1u) {
+                        u64 w10 = w191 & 18446744073709551614ull;
+                        const word p466 = (word)w191 & 1u;
+                        u32 n217 = 0u;
+                        word p153 = p980;
+                        do {
+                            const u32 n630 = n217 + 1u;
+                            const u32 n350 = load8(p153) == 2u ? (n630 ? n630 : 4294967295u) : n217;
+                            const u32 n785 = n350 + 1u;
+                            n217 = load8(p153 + 8u) == 2u ? (n785 ? n785 : 4294967295u) : n350;
+                            p153 = p153 + 16u;
+                            w10 = w10 - 2u;
+                        } while (w10 != 0u);
+                        u32 n91;
+                        if (p466 == 0u) {
+                            n91 = n217;
+                        } else {
+                            const u32 n630 = n217 + 1u;
+                            n91 = load8(p153) == 2u ? (n630 ? n630 : 4294967295u) : n217;
+                        }
+                        if (n91 >= 3u) {
+                            store8(frame + 2u, 0u);
+                            store16(frame, 0u);
+                            break;
+                        }
+                        n216 = 1u;
+                        return n216;
+                    }
+                }
+                store8(frame + 2u, 0u);
+                store16(frame, 0u);
+            } while (0);
+            if (w191 == 2u)
                 break;
         }
     L28:;
-        n162 = 0u;
-        if (load8(p970 + 16u) != 2u) {
-            return n162;
+        n216 = 0u;
+        if (load8(p980 + 16u) != 2u) {
+            return n216;
         }
     } while (0);
-    functions_function_function_of(frame, p970, p970 + 8u);
-    n162 = (u32)(load8(frame) == 1u) & (load8(frame + 1u) == 11u);
-    return n162;
+    functions_function_function_of(frame, p980, p980 + 8u);
+    n216 = (u32)(load8(frame + 1u) == 11u) & (load8(frame) == 1u);
+    return n216;
 }
-#endif
-
-#if UNITS & 0x40
 
 /* trac_warnings::bodies::look_at_called::<#f933f01a1e4bfb09>. */
-INTERNAL u32 warnings_bodies_look_at_called(word warnings, u64 alloc, word form, word ending) {
+static u32 warnings_bodies_look_at_called(word warnings, u64 alloc, word form, word ending) {
     u64 room[4];
     const word frame = (word)room;
     u32 n216 = 0u;
@@ -22540,7 +22838,7 @@ INTERNAL u32 warnings_bodies_look_at_called(word warnings, u64 alloc, word form,
     if (n766 > n576) {
         return n216;
     }
-    if (warnings_bodies_provides(11u, 0u, ending)) {
+    if (warnings_bodies_provides(11u, ending)) {
         return n216;
     }
     store64(frame, load64(ending + 16u));
@@ -23207,12 +23505,9 @@ L387:;
     n216 = warnings_findings_count(self, frame + 24u) & 255u;
     return n216;
 }
-#endif
-
-#if UNITS & 0x80
 
 /* trac_warnings::findings::count::<#f933f01a1e4bfb09>. */
-INTERNAL u32 warnings_findings_count(word counts, word warning) {
+static u32 warnings_findings_count(word counts, word warning) {
     u64 room[98];
     const word frame = (word)room;
     word p68 = 0u;
@@ -24120,9 +24415,6 @@ static INLINE u32 warnings_inside_stands_so(u32 joined, word text, u64 text_len,
     } while (items_len != 0u);
     return n216 & 1u;
 }
-#endif
-
-#if UNITS & 0x40
 
 /* Adds the calls in a script whose names no function has, and are nearly those of functions. */
 static u32 warnings_misspelled_look_at_names(word warnings, u64 alloc, u64 input, u64 input_len) {
@@ -24338,9 +24630,6 @@ static void warnings_names_suspicion_of_name(word result, word name, u64 name_le
     store8(result + 1u, n5);
     store8(result, n71);
 }
-#endif
-
-#if UNITS & 0x80
 
 /* Whether a name stands in the input as an argument: */
 static INLINE u32 warnings_names_is_written(word name, u64 name_len, word input, u64 input_len) {
@@ -24416,7 +24705,7 @@ L883:;
 }
 #endif
 
-#if UNITS & 0x20
+#if UNITS & 0x40
 
 /* Whether a call of `cl` without an argument, for the form of a name, stands in the input. */
 static INLINE u32 warnings_names_is_called_alone(word name, u64 name_len, word input, u64 input_len) {
@@ -24494,10 +24783,10 @@ static INLINE u32 warnings_names_is_called_alone(word name, u64 name_len, word i
 }
 #endif
 
-#if UNITS & 0x40
+#if UNITS & 0x20
 
 /* trac_warnings::operands::look_at_numbers::<#f933f01a1e4bfb09>. */
-INTERNAL u32 warnings_operands_look_at_numbers(word a1, u64 a2, word a3, word a4) {
+static u32 warnings_operands_look_at_numbers(word a1, u64 a2, word a3, word a4) {
     u64 room[10];
     const word frame = (word)room;
     u64 w68 = 0u;
@@ -24715,10 +25004,10 @@ static void warnings_operands_operand_among(word result, word machine, word cell
 }
 #endif
 
-#if UNITS & 0x80
+#if UNITS & 0x40
 
 /* trac_warnings::operands::look_at_both::<#f933f01a1e4bfb09>. */
-static u32 warnings_operands_look_at_both(word a1, u64 a2, word a3) {
+INTERNAL u32 warnings_operands_look_at_both(word a1, u64 a2, word a3) {
     u64 room[8];
     const word frame = (word)room;
     u64 w68 = 0u;
@@ -25067,6 +25356,9 @@ L955:;
     n216 = warnings_performed_warn(a1, a2, n423, frame + 32u, (word)w679, w68) & 255u;
     return n216;
 }
+#endif
+
+#if UNITS & 0x20
 
 /* trac_warnings::operands::parts_number. */
 static u32 warnings_operands_parts_number(word arguments, u64 arguments_len) {
@@ -25295,18 +25587,18 @@ static u32 warnings_operands_parts_number(word arguments, u64 arguments_len) {
 }
 
 /* Adds what is suspicious in a call that a machine is about to perform. */
-INTERNAL u32 warnings_performed_look_at_call(word warnings, u64 alloc, word machine, word ending) {
-    u64 room[22];
+static u32 warnings_performed_look_at_call(word warnings, u64 alloc, word machine, word ending) {
+    u64 room[14];
     const word frame = (word)room;
     u32 n216 = 0u;
-    u32 n107 = 0u;
+    u32 n217 = 0u;
     u64 w68 = 0u;
-    u32 n178;
-    u32 n411;
+    u32 n624;
+    u32 n5;
     do {
         word p491;
         u64 w77;
-        u32 n171;
+        u32 n702;
         u32 n637;
         u64 w410;
         u64 w300;
@@ -25330,29 +25622,32 @@ INTERNAL u32 warnings_performed_look_at_call(word warnings, u64 alloc, word mach
                         functions_function_function_of(frame + 80u, no_address(p491, 1u), no_address(p491 + 8u, 1u));
                         if (load8(frame + 80u) != 1u)
                             goto L753;
-                        n178 = load8(frame + 82u);
-                        n411 = load8(frame + 81u);
-                        store64(frame + 72u, 0u);
-                        store64(frame + 64u, 0u);
-                        store64(frame + 56u, 0u);
+                        n624 = load8(frame + 82u);
+                        n5 = load8(frame + 81u);
+                        store64(frame + 80u, 0u);
+                        store64(frame + 88u, 0u);
+                        store64(frame + 96u, 0u);
+                        store64(frame + 104u, 0u);
                         store64(frame + 48u, 0u);
-                        fill(frame + 80u, 0u, 96u);
-                        language_table_row(frame + 80u, n411, n178);
-                        if (load8(frame + 148u) != 1u)
+                        store64(frame + 56u, 0u);
+                        store64(frame + 64u, 0u);
+                        store32(frame + 72u, 0u);
+                        language_table_traits_of(frame + 48u, n5);
+                        if (load8(frame + 48u) != 1u)
                             break;
-                        n171 = load32(frame + 152u);
-                        const word p298 = n171;
-                        if (load64(ending + 56u) <= p298)
+                        n702 = load32(frame + 52u);
+                        const word p444 = n702;
+                        if (load64(ending + 56u) <= p444)
                             break;
-                        const word p744 = load_word(ending + 48u) + (p298 << 5);
-                        n637 = load8(p744 + 8u);
-                        const word p624 = p744 + 24u;
-                        const word p855 = p744 + 16u;
+                        const word p435 = load_word(ending + 48u) + (p444 << 5);
+                        n637 = load8(p435 + 8u);
+                        const word p624 = p435 + 24u;
+                        const word p855 = p435 + 16u;
                         u64 w353 = w77;
                         word p353 = p491;
                         u32 n121;
                         do {
-                            if (n171 != 4294967295u) {
+                            if (n702 != 4294967295u) {
                                 u32 n91 = 0;
                                 do {
                                     n91 = n216;
@@ -25376,7 +25671,7 @@ INTERNAL u32 warnings_performed_look_at_call(word warnings, u64 alloc, word mach
                                     p353 = n909 ? ((word)w301 << 3) + p353 : TABLES + 5032u;
                                     n121 = 1u;
                                     n216 = n91 + 1u;
-                                } while (n91 != n171);
+                                } while (n91 != n702);
                                 if (w353 == 0u)
                                     break;
                             }
@@ -25396,7 +25691,7 @@ INTERNAL u32 warnings_performed_look_at_call(word warnings, u64 alloc, word mach
                             }
                             n121 = w78 == 0u;
                         } while (0);
-                        w410 = load64(p744);
+                        w410 = load64(p435);
                         w300 = load64(p624);
                         w335 = load64(p855);
                         const u32 n888 = load8(ending + 24u);
@@ -25428,26 +25723,26 @@ INTERNAL u32 warnings_performed_look_at_call(word warnings, u64 alloc, word mach
         L382:;
             warnings_performed_suspicion_of_call(frame + 8u, machine, no_address(p491, 1u), w68);
             if (load8(frame + 8u) != 1u) {
-                return n107;
+                return n217;
             }
-            const u32 n846 = load8(frame + 9u);
+            const u32 n421 = load8(frame + 9u);
             store64(frame + 16u, load64(ending + 16u));
             store64(frame + 24u, load8(ending + 24u));
             store64(frame + 32u, load64(ending + 32u));
             store64(frame + 40u, load64(ending + 40u));
-            n107 = warnings_performed_warn(warnings, alloc, n846, frame + 16u, no_address(p491, 1u), w68) & 255u;
-            return n107;
+            n217 = warnings_performed_warn(warnings, alloc, n421, frame + 16u, no_address(p491, 1u), w68) & 255u;
+            return n217;
         }
     L737:;
-        store64(frame + 72u, w300);
-        store64(frame + 64u, w335);
-        store64(frame + 56u, (word)n637 & 255u);
-        store64(frame + 48u, w410);
-        if (n171 != 4294967295u) {
-            u32 n217 = 0u;
+        store64(frame + 104u, w300);
+        store64(frame + 96u, w335);
+        store64(frame + 88u, (word)n637 & 255u);
+        store64(frame + 80u, w410);
+        if (n702 != 4294967295u) {
+            u32 n218 = 0u;
             u32 n91 = 0;
             do {
-                n91 = n217;
+                n91 = n218;
                 u64 w69 = 0u;
                 {
                     if (w77 != 0u) {
@@ -25466,8 +25761,8 @@ INTERNAL u32 warnings_performed_look_at_call(word warnings, u64 alloc, word mach
                 const u32 n909 = w69 < w77;
                 w77 = n909 ? w77 - w301 : 0u;
                 p491 = n909 ? ((word)w301 << 3) + p491 : TABLES + 5032u;
-                n217 = n91 + 1u;
-            } while (n91 != n171);
+                n218 = n91 + 1u;
+            } while (n91 != n702);
         }
         u64 w69 = 0u;
         {
@@ -25483,28 +25778,28 @@ INTERNAL u32 warnings_performed_look_at_call(word warnings, u64 alloc, word mach
                 }
             }
         }
-        if ((warnings_performed_warn(warnings, alloc, 13u, frame + 48u, no_address(p491, 1u), w69) & 255u) != 0u) {
-            n107 = 1u;
-            return n107;
+        if ((warnings_performed_warn(warnings, alloc, 13u, frame + 80u, no_address(p491, 1u), w69) & 255u) != 0u) {
+            n217 = 1u;
+            return n217;
         }
     } while (0);
-    n107 = 1u;
+    n217 = 1u;
     if (load8(ending + 80u) == 1u) {
-        if (warnings_performed_warn_of_nesting(warnings, alloc, n411, n178, ending) & 255u) {
-            return n107;
+        if (warnings_performed_warn_of_nesting(warnings, alloc, n5, ending) & 255u) {
+            return n217;
         }
     }
     do {
         word p724;
         u64 w69;
         {
-            if ((n411 & 254u) == 18u) {
+            if ((n5 & 254u) == 18u) {
                 if (warnings_operands_look_at_numbers(warnings, alloc, machine, ending) & 255u) {
-                    return n107;
+                    return n217;
                 }
-                if (n411 != 19u)
+                if (n5 != 19u)
                     break;
-                if (n178 == 3u)
+                if (n624 == 3u)
                     break;
                 p724 = load_word(ending);
                 const u64 w77 = load64(ending + 8u);
@@ -25525,11 +25820,11 @@ INTERNAL u32 warnings_performed_look_at_call(word warnings, u64 alloc, word mach
                     w69 = 0u;
                 }
             } else {
-                if (n411 != 17u)
+                if (n5 != 17u)
                     break;
                 if ((warnings_operands_look_at_both(warnings, alloc, ending) & 255u) == 0u)
                     break;
-                return n107;
+                return n217;
             }
         }
         store64(frame + 80u, load64(ending + 16u));
@@ -25537,39 +25832,39 @@ INTERNAL u32 warnings_performed_look_at_call(word warnings, u64 alloc, word mach
         store64(frame + 96u, load64(ending + 32u));
         store64(frame + 104u, load64(ending + 40u));
         if (warnings_performed_warn(warnings, alloc, 17u, frame + 80u, p724, w69) & 255u) {
-            return n107;
+            return n217;
         }
     } while (0);
-    switch (n411 - 2u) {
+    switch (n5 - 2u) {
     case 1:
     {
         if ((warnings_printed_look_at_printed(warnings, alloc, ending) & 255u) == 0u)
             break;
-        return n107;
+        return n217;
     }
     case 0:
     {
         if ((warnings_printed_look_at_new_meta(warnings, alloc, ending) & 255u) != 0u) {
-            return n107;
+            return n217;
         }
         break;
     }
     }
-    n107 = 0u;
-    fill(frame + 80u, 0u, 96u);
-    language_table_row(frame + 80u, n411, n178);
-    if ((load8(frame + 157u) & 1u) == 0u) {
-        return n107;
+    n217 = 0u;
+    store32(frame + 104u, 0u);
+    store64(frame + 96u, 0u);
+    store64(frame + 88u, 0u);
+    store64(frame + 80u, 0u);
+    language_table_traits_of(frame + 80u, n5);
+    if (load8(frame + 89u) != 1u) {
+        return n217;
     }
-    n107 = warnings_performed_look_at_named_form(warnings, alloc, machine, n411, n178, ending) & 255u;
-    return n107;
+    n217 = warnings_performed_look_at_named_form(warnings, alloc, machine, n5, ending) & 255u;
+    return n217;
 }
-#endif
-
-#if UNITS & 0x40
 
 /* trac_warnings::performed::suspicion_of_call. */
-INTERNAL void warnings_performed_suspicion_of_call(word result, word machine, word name, u64 name_len) {
+static void warnings_performed_suspicion_of_call(word result, word machine, word name, u64 name_len) {
     u64 room[8];
     const word frame = (word)room;
     u32 n216 = 0u;
@@ -25613,86 +25908,91 @@ INTERNAL void warnings_performed_suspicion_of_call(word result, word machine, wo
     store8(result + 1u, n216);
     store8(result, n217);
 }
-#endif
-
-#if UNITS & 0x80
 
 /* trac_warnings::performed::warn_of_nesting::<#f933f01a1e4bfb09>. */
-static u32 warnings_performed_warn_of_nesting(word a1, u64 a2, u32 a3, u32 a4, word a5) {
-    u64 room[16];
+static u32 warnings_performed_warn_of_nesting(word warnings, u64 alloc, u32 function, word ending) {
+    u64 room[8];
     const word frame = (word)room;
     u64 w68 = 0u;
-    const u64 w139 = load64(a5 + 72u);
-    const word p500 = load_word(a5 + 64u);
-    fill(frame + 32u, 0u, 96u);
-    language_table_row(frame + 32u, a3, a4);
+    const u64 w191 = load64(ending + 72u);
+    const word p980 = load_word(ending + 64u);
+    store32(frame + 56u, 0u);
+    store64(frame + 48u, 0u);
+    store64(frame + 40u, 0u);
+    store64(frame + 32u, 0u);
+    language_table_traits_of(frame + 32u, function);
     u32 n123;
     u32 n216;
     do {
         n123 = 24u;
-        if ((load8(frame + 124u) & 1u) == 0u) {
-            const u32 n944 = load8(frame + 122u);
-            const u32 n331 = load8(frame + 111u);
-            const u32 n603 = load8(frame + 110u);
-            if ((load8(frame + 121u) & 1u) != 0u) {
-                if (warnings_performed_is_in_default(p500, w139) != 0u) {
+        if ((load8(frame + 56u) & 1u) == 0u) {
+            const u32 n649 = load8(frame + 54u);
+            const u32 n648 = load8(frame + 43u);
+            const u32 n100 = load8(frame + 42u);
+            if ((load8(frame + 53u) & 1u) != 0u) {
+                if (warnings_performed_is_in_default(p980, w191) != 0u) {
                     n123 = 25u;
                     break;
                 }
             }
-            n216 = 0u;
-            if ((((n331 == 0u) & n603) ? 1u : (n944 & 1u)) == 0u) {
+            if ((((n648 == 0u) & n100) ? 1u : (n649 & 1u)) == 0u) {
+                n216 = 0u;
                 return n216;
             }
-            if (warnings_performed_is_in_default(p500, w139) == 0u) {
+            if (warnings_performed_is_in_default(p980, w191) == 0u) {
+                n216 = 0u;
                 return n216;
             }
             n123 = 26u;
         }
     } while (0);
     const u32 n91 = n123;
-    if (w139 != 0u) {
-        word p501 = p500;
+    if (w191 != 0u) {
+        word p759 = p980;
         for (;;) {
-            if (load8(p501) == 2u) {
-                store64(frame, load64(a5 + 16u));
-                store64(frame + 8u, load8(a5 + 24u));
-                store64(frame + 16u, load64(a5 + 32u));
-                store64(frame + 24u, load64(a5 + 40u));
-                n216 = warnings_performed_warn(a1, a2, n91, frame, p500, w68) & 255u;
+            if (load8(p759) == 2u) {
+                store64(frame, load64(ending + 16u));
+                store64(frame + 8u, load8(ending + 24u));
+                store64(frame + 16u, load64(ending + 32u));
+                store64(frame + 24u, load64(ending + 40u));
+                n216 = warnings_performed_warn(warnings, alloc, n91, frame, p980, w68) & 255u;
                 return n216;
             }
-            p501 = p501 + 8u;
+            p759 = p759 + 8u;
             w68 = w68 + 1u;
-            if (w68 == w139) {
-                w68 = w139;
-                store64(frame, load64(a5 + 16u));
-                store64(frame + 8u, load8(a5 + 24u));
-                store64(frame + 16u, load64(a5 + 32u));
-                store64(frame + 24u, load64(a5 + 40u));
-                n216 = warnings_performed_warn(a1, a2, n91, frame, p500, w68) & 255u;
+            if (w68 == w191) {
+                w68 = w191;
+                store64(frame, load64(ending + 16u));
+                store64(frame + 8u, load8(ending + 24u));
+                store64(frame + 16u, load64(ending + 32u));
+                store64(frame + 24u, load64(ending + 40u));
+                n216 = warnings_performed_warn(warnings, alloc, n91, frame, p980, w68) & 255u;
                 return n216;
             }
         }
     }
-    store64(frame, load64(a5 + 16u));
-    store64(frame + 8u, load8(a5 + 24u));
-    store64(frame + 16u, load64(a5 + 32u));
-    store64(frame + 24u, load64(a5 + 40u));
-    n216 = warnings_performed_warn(a1, a2, n91, frame, p500, w68) & 255u;
+    store64(frame, load64(ending + 16u));
+    store64(frame + 8u, load8(ending + 24u));
+    store64(frame + 16u, load64(ending + 32u));
+    store64(frame + 24u, load64(ending + 40u));
+    n216 = warnings_performed_warn(warnings, alloc, n91, frame, p980, w68) & 255u;
     return n216;
 }
 
 /* trac_warnings::performed::is_in_default. */
 static u32 warnings_performed_is_in_default(word arguments, u64 arguments_len) {
-    u64 room[12];
+    u64 room[4];
     const word frame = (word)room;
     u32 n216 = 0u;
     u64 w68 = 0u;
-    u32 n8;
+    store32(frame + 24u, 0u);
+    store64(frame + 16u, 0u);
+    store64(frame + 8u, 0u);
+    store64(frame, 0u);
+    u32 n133;
     if (arguments_len == 0u) {
-        n8 = 0u;
-        return n8;
+        n133 = 0u;
+        return n133;
     }
     do {
         if (arguments_len != 1u) {
@@ -25714,75 +26014,72 @@ static u32 warnings_performed_is_in_default(word arguments, u64 arguments_len) {
         const u32 n371 = load8(((word)w68 << 3) + arguments);
         n216 = n371 == 2u ? (n630 ? n630 : 4294967295u) : n216;
     } while (0);
-    store8(frame + 2u, 0u);
-    store16(frame, 0u);
+    store8(frame + 30u, 0u);
+    store16(frame + 28u, 0u);
     const u64 w110 = arguments_len - 1u;
     if (w110 <= 1u) {
         if ((u32)(word)w110 - 1u) {
-            n8 = 0u;
-            return n8;
+            n133 = 0u;
+            return n133;
         }
     } else if (load8(arguments + 16u) != 2u) {
-        n8 = 0u;
-        return n8;
+        n133 = 0u;
+        return n133;
     }
-    functions_function_function_of(frame, arguments, arguments + 8u);
-    n8 = 0u;
-    if (load8(frame) != 1u) {
-        return n8;
+    functions_function_function_of(frame + 28u, arguments, arguments + 8u);
+    n133 = 0u;
+    if (load8(frame + 28u) != 1u) {
+        return n133;
     }
-    const u32 n218 = load8(frame + 2u);
-    const u32 n722 = load8(frame + 1u);
-    fill(frame, 0u, 96u);
-    language_table_row(frame, n722, n218);
-    const u32 n408 = load8(frame + 88u);
-    n8 = (n216 > 2u) & n408;
-    if (load8(frame + 80u) != 1u) {
-        return n8;
+    language_table_traits_of(frame, load8(frame + 29u));
+    const u32 n17 = load8(frame + 20u);
+    n133 = (n216 > 2u) & n17;
+    if (load8(frame + 12u) != 1u) {
+        return n133;
     }
-    n8 = ((n216 > 2u) & n408) | (load32(frame + 84u) == n216);
-    return n8;
+    n133 = ((n216 > 2u) & n17) | (load32(frame + 16u) == n216);
+    return n133;
 }
 
 /* trac_warnings::performed::look_at_named_form::<#f933f01a1e4bfb09>. */
-static u32 warnings_performed_look_at_named_form(word a1, u64 a2, word a3, u32 a4, u32 a5, word a6) {
+static u32 warnings_performed_look_at_named_form(word warnings, u64 alloc, word machine, u32 function, word ending) {
     u64 room[12];
     const word frame = (word)room;
     u64 w68 = 0u;
-    const u64 w159 = load64(a6);
-    u64 w951;
+    const u64 w724 = load64(ending);
+    u64 w77;
     {
-        w951 = load64(a6 + 8u);
-        if (w951 != 0u) {
-            word p159 = (word)w159;
-            while (load8(p159) != 2u) {
-                p159 = p159 + 8u;
+        w77 = load64(ending + 8u);
+        if (w77 != 0u) {
+            word p724 = (word)w724;
+            while (load8(p724) != 2u) {
+                p724 = p724 + 8u;
                 w68 = w68 + 1u;
-                if (w68 == w951) {
-                    w68 = w951;
+                if (w68 == w77) {
+                    w68 = w77;
                     break;
                 }
             }
         }
     }
     const u64 w301 = w68 + 1u;
-    const u32 n817 = w68 >= w951;
-    const u64 w655 = n817 ? TABLES + 5032u : (w301 << 3) + w159;
-    u64 w69;
-    u32 n718;
+    const u32 n169 = w68 >= w77;
+    const u64 w270 = n169 ? TABLES + 5032u : (w301 << 3) + w724;
+    u64 w13;
+    u32 n584;
     do {
-        if (n817 == 0u) {
-            w69 = w951 - w301;
-            if (w69 != 0u) {
-                const u64 w969 = w68 - w951 + 1u;
-                u64 w70 = 0u;
-                word p558 = (word)w655;
+        if (n169 == 0u) {
+            w13 = w77 - w301;
+            if (w13 != 0u) {
+                const u64 w416 = w68 - w77 + 1u;
+                u64 w69 = 0u;
+                word p759 = (word)w270;
                 {
                     {
-                        while (load8(no_address(p558, 1u)) != 2u) {
-                            p558 = p558 + 8u;
-                            w70 = w70 - 1u;
-                            if (w969 == w70) {
+                        while (load8(no_address(p759, 1u)) != 2u) {
+                            p759 = p759 + 8u;
+                            w69 = w69 - 1u;
+                            if (w416 == w69) {
                                 store64(frame + 88u, 0u);
                                 store64(frame + 80u, 0u);
                                 store64(frame + 72u, 0u);
@@ -25793,32 +26090,33 @@ static u32 warnings_performed_look_at_named_form(word a1, u64 a2, word a3, u32 a
                             }
                         }
                     }
-                    w69 = 0u;
+                    w13 = 0u;
                     store64(frame + 88u, 0u);
                     store64(frame + 80u, 0u);
                     store64(frame + 72u, 0u);
                     store64(frame + 64u, 0u);
                     store64(frame + 56u, 0u);
                     store64(frame + 48u, 0u);
-                    if (w70 == 0u)
+                    if (w69 == 0u)
                         break;
-                    w69 = 0u - w70;
+                    w13 = 0u - w69;
                 }
             L980:;
-                word p559 = (word)w655;
-                u64 w353 = w69;
+                word p760 = (word)w270;
+                u64 w353 = w13;
                 do {
-                    if (load8(no_address(p559, 1u))) {
-                        n718 = warnings_performed_look_at_missing(a1, a2, a3, a4, a5, w655, w69, a6) & 255u;
-                        return n718;
+                    if (load8(no_address(p760, 1u))) {
+                        n584 = warnings_performed_look_at_missing(warnings, alloc, machine, function, w270, w13,
+                            ending) & 255u;
+                        return n584;
                     }
-                    p559 = p559 + 8u;
+                    p760 = p760 + 8u;
                     w353 = w353 - 1u;
                 } while (w353 != 0u);
                 break;
             }
         }
-        w69 = 0u;
+        w13 = 0u;
         store64(frame + 88u, 0u);
         store64(frame + 80u, 0u);
         store64(frame + 72u, 0u);
@@ -25826,151 +26124,156 @@ static u32 warnings_performed_look_at_named_form(word a1, u64 a2, word a3, u32 a
         store64(frame + 56u, 0u);
         store64(frame + 48u, 0u);
     } while (0);
-    core_machine_Machine_form_named(frame + 48u, a3, (word)w655, w69);
+    core_machine_Machine_form_named(frame + 48u, machine, (word)w270, w13);
     store64(frame + 8u, load64(frame + 56u));
     store64(frame + 16u, load64(frame + 64u));
     store64(frame + 24u, load64(frame + 72u));
     store64(frame + 32u, load64(frame + 80u));
     store64(frame + 40u, load64(frame + 88u));
     if (load8(frame + 48u)) {
-        n718 = warnings_bodies_look_at_body(a1, a2, a4, a5, frame + 8u, a6) & 255u;
+        n584 = warnings_bodies_look_at_body(warnings, alloc, function, frame + 8u, ending) & 255u;
     } else {
-        n718 = warnings_performed_look_at_missing(a1, a2, a3, a4, a5, w655, w69, a6) & 255u;
-        return n718;
+        n584 = warnings_performed_look_at_missing(warnings, alloc, machine, function, w270, w13, ending) & 255u;
+        return n584;
     }
-    return n718;
+    return n584;
 }
 
 /* trac_warnings::performed::look_at_missing::<#f933f01a1e4bfb09>. */
-static u32 warnings_performed_look_at_missing(word a1, u64 a2, word a3, u32 a4, u32 a5, u64 a6, u64 a7, word a8) {
-    u64 room[18];
+static u32 warnings_performed_look_at_missing(word warnings, u64 alloc, word machine, u32 function, u64 name, u64
+    name_len, word ending) {
+    u64 room[14];
     const word frame = (word)room;
-    u32 n216;
-    u64 w350;
-    u64 w46;
+    u32 n167;
+    u64 w134;
+    u64 w68;
     {
         {
             {
+                store64(frame + 48u, 0u);
                 store64(frame + 40u, 0u);
                 store64(frame + 32u, 0u);
                 store64(frame + 24u, 0u);
-                store64(frame + 16u, 0u);
-                word p188 = load_word(a8);
-                u64 w123 = load64(a8 + 8u);
-                fill(frame + 48u, 0u, 96u);
-                language_table_row(frame + 48u, a4, a5);
+                word p491 = load_word(ending);
+                u64 w77 = load64(ending + 8u);
+                store32(frame + 88u, 0u);
+                store64(frame + 80u, 0u);
+                store64(frame + 72u, 0u);
+                store64(frame + 64u, 0u);
+                language_table_traits_of(frame + 64u, function);
                 {
-                    if (load8(frame + 128u) == 1u) {
-                        const u32 n127 = load32(frame + 132u);
-                        if (n127) {
-                            u32 n217 = 0u;
+                    if (load8(frame + 76u) == 1u) {
+                        const u32 n591 = load32(frame + 80u);
+                        if (n591) {
+                            u32 n216 = 0u;
                             do {
-                                u64 w68 = 0u;
+                                u64 w69 = 0u;
                                 {
-                                    if (w123 != 0u) {
-                                        word p353 = p188;
+                                    if (w77 != 0u) {
+                                        word p353 = p491;
                                         while (load8(no_address(p353, 1u)) != 2u) {
                                             p353 = p353 + 8u;
-                                            w68 = w68 + 1u;
-                                            if (w123 == w68) {
-                                                w68 = w123;
+                                            w69 = w69 + 1u;
+                                            if (w77 == w69) {
+                                                w69 = w77;
                                                 break;
                                             }
                                         }
                                     }
                                 }
-                                const u64 w301 = w68 + 1u;
-                                const u32 n909 = w68 < w123;
-                                w123 = n909 ? w123 - w301 : 0u;
-                                p188 = n909 ? ((word)w301 << 3) + p188 : TABLES + 5032u;
-                                n217 = n217 + 1u;
-                            } while (n217 != n127);
+                                const u64 w301 = w69 + 1u;
+                                const u32 n909 = w69 < w77;
+                                w77 = n909 ? w77 - w301 : 0u;
+                                p491 = n909 ? ((word)w301 << 3) + p491 : TABLES + 5032u;
+                                n216 = n216 + 1u;
+                            } while (n216 != n591);
                         }
-                        if (w123 != 0u) {
-                            u64 w68 = 0u;
+                        if (w77 != 0u) {
+                            u64 w69 = 0u;
                             for (;;) {
-                                if (load8(no_address(p188, 1u)) == 2u) {
-                                    if (w68 == 0u)
+                                if (load8(no_address(p491, 1u)) == 2u) {
+                                    if (w69 == 0u)
                                         break;
-                                    n216 = 0u;
-                                    return n216;
+                                    n167 = 0u;
+                                    return n167;
                                 }
-                                p188 = p188 + 8u;
-                                w68 = w68 + 1u;
-                                if (w123 == w68) {
-                                    n216 = 0u;
-                                    return n216;
+                                p491 = p491 + 8u;
+                                w69 = w69 + 1u;
+                                if (w77 == w69) {
+                                    n167 = 0u;
+                                    return n167;
                                 }
                             }
                         }
                     }
                 }
-                word p153 = load_word(a8 + 64u);
-                const u64 w959 = load64(a8 + 72u);
-                store8(frame + 50u, 0u);
-                store16(frame + 48u, 0u);
+                word p153 = load_word(ending + 64u);
+                const u64 w191 = load64(ending + 72u);
+                store32(frame + 88u, 0u);
+                store64(frame + 80u, 0u);
+                store64(frame + 72u, 0u);
+                store64(frame + 64u, 0u);
+                store8(frame + 62u, 0u);
+                store16(frame + 60u, 0u);
                 do {
-                    if (w959 >= 2u) {
-                        if (w959 != 2u) {
+                    if (w191 >= 2u) {
+                        if (w191 != 2u) {
                             if (load8(p153 + 16u) != 2u)
                                 break;
                         }
-                        functions_function_function_of(frame + 48u, p153, p153 + 8u);
-                        if (load8(frame + 48u) == 1u) {
-                            const u32 n383 = load8(frame + 50u);
-                            const u32 n652 = load8(frame + 49u);
-                            u32 n217 = 0u;
-                            fill(frame + 48u, 0u, 96u);
-                            language_table_row(frame + 48u, n652, n383);
-                            if ((load8(frame + 136u) & 1u) != 0u) {
-                                u64 w10 = w959 & 18446744073709551614ull;
-                                const word p591 = (word)w959 & 1u;
+                        functions_function_function_of(frame + 60u, p153, p153 + 8u);
+                        if (load8(frame + 60u) == 1u) {
+                            language_table_traits_of(frame + 64u, load8(frame + 61u));
+                            if (load8(frame + 84u) == 1u) {
+                                u64 w10 = w191 & 18446744073709551614ull;
+                                const word p466 = (word)w191 & 1u;
+                                u32 n216 = 0u;
                                 do {
-                                    const u32 n630 = n217 + 1u;
-                                    const u32 n350 = load8(p153) == 2u ? (n630 ? n630 : 4294967295u) : n217;
+                                    const u32 n630 = n216 + 1u;
+                                    const u32 n350 = load8(p153) == 2u ? (n630 ? n630 : 4294967295u) : n216;
                                     const u32 n785 = n350 + 1u;
-                                    n217 = load8(p153 + 8u) == 2u ? (n785 ? n785 : 4294967295u) : n350;
+                                    n216 = load8(p153 + 8u) == 2u ? (n785 ? n785 : 4294967295u) : n350;
                                     p153 = p153 + 16u;
                                     w10 = w10 - 2u;
                                 } while (w10 != 0u);
                                 u32 n91;
-                                if (p591 == 0u) {
-                                    n91 = n217;
+                                if (p466 == 0u) {
+                                    n91 = n216;
                                 } else {
-                                    const u32 n630 = n217 + 1u;
-                                    n91 = load8(p153) == 2u ? (n630 ? n630 : 4294967295u) : n217;
+                                    const u32 n630 = n216 + 1u;
+                                    n91 = load8(p153) == 2u ? (n630 ? n630 : 4294967295u) : n216;
                                 }
                                 if (n91 < 3u) {
-                                    n216 = 0u;
-                                    return n216;
+                                    n167 = 0u;
+                                    return n167;
                                 }
                             }
                         }
                     }
                 } while (0);
-                if (a7 != 0u) {
-                    word p699 = (word)a7 << 3;
-                    w350 = a6;
-                    w46 = a7;
+                if (name_len != 0u) {
+                    word p621 = (word)name_len << 3;
+                    w134 = name;
+                    w68 = name_len;
                     for (;;) {
-                        if (load8(no_address((word)w350, 1u)) == 0u) {
-                            const word p567 = load8(no_address((word)w350 + 1u, 1u));
+                        if (load8(no_address((word)w134, 1u)) == 0u) {
+                            const word p567 = load8(no_address((word)w134 + 1u, 1u));
                             if (p567 <= 32u) {
                                 if ((((u64)1u << (p567 & 63u)) & 4294977024ull) != 0u) {
-                                    w350 = w350 + 8u;
-                                    p699 = p699 - 8u;
-                                    w46 = w46 - 1u;
-                                    if (w46 != 0u)
+                                    w134 = w134 + 8u;
+                                    p621 = p621 - 8u;
+                                    w68 = w68 - 1u;
+                                    if (w68 != 0u)
                                         continue;
                                     break;
                                 }
                             }
                         }
-                        if (w46 == 0u) {
-                            w46 = 0u;
-                            goto L172;
+                        if (w68 == 0u) {
+                            w68 = 0u;
+                            goto L549;
                         }
-                        const word p596 = (word)w350 + p699;
+                        const word p596 = (word)w134 + p621;
                         if (load8(no_address(p596 - 8u, 1u)))
                             goto L926;
                         const word p297 = load8(no_address(p596 - 7u, 1u));
@@ -25978,65 +26281,62 @@ static u32 warnings_performed_look_at_missing(word a1, u64 a2, word a3, u32 a4, 
                             goto L926;
                         if ((((u64)1u << (p297 & 63u)) & 4294977024ull) == 0u)
                             goto L926;
-                        goto L172;
+                        goto L549;
                     }
                 }
             }
-            w350 = TABLES + 5032u;
-            w46 = 0u;
+            w134 = TABLES + 5032u;
+            w68 = 0u;
         }
-    L172:;
-        warnings_blanks_before_last_blanks(frame, no_address((word)w350, 1u), w46);
-        w46 = load64(frame + 8u);
-        w350 = load64(frame);
+    L549:;
+        warnings_blanks_before_last_blanks(frame + 8u, no_address((word)w134, 1u), w68);
+        w68 = load64(frame + 16u);
+        w134 = load64(frame + 8u);
     }
 L926:;
+    store64(frame + 104u, 0u);
+    store64(frame + 96u, 0u);
     store64(frame + 88u, 0u);
     store64(frame + 80u, 0u);
     store64(frame + 72u, 0u);
     store64(frame + 64u, 0u);
-    store64(frame + 56u, 0u);
-    store64(frame + 48u, 0u);
-    word p353 = (word)w350;
-    u64 w353 = w46;
+    word p353 = (word)w134;
+    u64 w353 = w68;
     u32 n162;
     {
-        if (w46 != 0u) {
+        if (w68 != 0u) {
             do {
                 if (load8(no_address(p353, 1u)))
-                    goto L521;
+                    goto L465;
                 p353 = p353 + 8u;
                 w353 = w353 - 1u;
             } while (w353 != 0u);
         }
-        core_machine_Machine_form_named(frame + 48u, a3, no_address((word)w350, 1u), w46);
-        if (load8(frame + 48u) == 1u) {
+        core_machine_Machine_form_named(frame + 64u, machine, no_address((word)w134, 1u), w68);
+        if (load8(frame + 64u) == 1u) {
             n162 = 12u;
-            store64(frame + 16u, load64(a8 + 16u));
-            store64(frame + 24u, load8(a8 + 24u));
-            store64(frame + 32u, load64(a8 + 32u));
-            store64(frame + 40u, load64(a8 + 40u));
-            n216 = warnings_performed_warn(a1, a2, n162, frame + 16u, (word)a6, a7) & 255u;
-            return n216;
+            store64(frame + 24u, load64(ending + 16u));
+            store64(frame + 32u, load8(ending + 24u));
+            store64(frame + 40u, load64(ending + 32u));
+            store64(frame + 48u, load64(ending + 40u));
+            n167 = warnings_performed_warn(warnings, alloc, n162, frame + 24u, (word)name, name_len) & 255u;
+            return n167;
         }
     }
-L521:;
-    const u32 n331 = warnings_names_is_written((word)a6, a7, load_word(a8 + 88u), load64(a8 + 96u));
-    n216 = 0u;
-    if (n331 == 0u) {
-        return n216;
+L465:;
+    const u32 n660 = warnings_names_is_written((word)name, name_len, load_word(ending + 88u), load64(ending + 96u));
+    n167 = 0u;
+    if (n660 == 0u) {
+        return n167;
     }
     n162 = 11u;
-    store64(frame + 16u, load64(a8 + 16u));
-    store64(frame + 24u, load8(a8 + 24u));
-    store64(frame + 32u, load64(a8 + 32u));
-    store64(frame + 40u, load64(a8 + 40u));
-    n216 = warnings_performed_warn(a1, a2, n162, frame + 16u, (word)a6, a7) & 255u;
-    return n216;
+    store64(frame + 24u, load64(ending + 16u));
+    store64(frame + 32u, load8(ending + 24u));
+    store64(frame + 40u, load64(ending + 32u));
+    store64(frame + 48u, load64(ending + 40u));
+    n167 = warnings_performed_warn(warnings, alloc, n162, frame + 24u, (word)name, name_len) & 255u;
+    return n167;
 }
-#endif
-
-#if UNITS & 0x40
 
 /* Adds a warning. */
 INTERNAL u32 warnings_performed_warn(word warnings, u64 alloc, u32 suspicion, word origin, word cells, u64 cells_len) {
@@ -26096,9 +26396,6 @@ INTERNAL u32 warnings_performed_warn(word warnings, u64 alloc, u32 suspicion, wo
     n216 = 0u;
     return n216;
 }
-#endif
-
-#if UNITS & 0x80
 
 /* Adds a warning of a text. */
 static u32 warnings_performed_warn_of(word a1, word a2, word a3) {
@@ -26144,9 +26441,6 @@ static u32 warnings_performed_warn_of(word a1, word a2, word a3) {
     store64(p847, w39 + 1u);
     return 0u;
 }
-#endif
-
-#if UNITS & 0x40
 
 /* The characters of cells. */
 INTERNAL void warnings_performed_characters_of(word result, u64 alloc, word cells, u64 cells_len) {
@@ -26213,9 +26507,6 @@ INTERNAL void warnings_performed_characters_of(word result, u64 alloc, word cell
     store64(result + 24u, 0u);
     store64(result + 32u, 0u);
 }
-#endif
-
-#if UNITS & 0x80
 
 /* trac_warnings::printed::look_at_printed::<#f933f01a1e4bfb09>. */
 static u32 warnings_printed_look_at_printed(word a1, u64 a2, word a3) {
@@ -27346,12 +27637,9 @@ static u32 warnings_segmented_look_for_texts(word warnings, u64 alloc, word name
     n217 = n454 & 255u;
     return n217;
 }
-#endif
-
-#if UNITS & 0x40
 
 /* trac_warnings::watch::Watch::warn_of_rule::<#f933f01a1e4bfb09>. */
-static u32 warnings_watch_Watch_warn_of_rule(word self, word before, word origin, word active, u64 active_len, u64
+INTERNAL u32 warnings_watch_Watch_warn_of_rule(word self, word before, word origin, word active, u64 active_len, u64
     neutral) {
     u64 room[4];
     const word frame = (word)room;
@@ -27466,7 +27754,7 @@ static u32 warnings_watch_Watch_warn_of_rule(word self, word before, word origin
 }
 
 /* trac_warnings::watch::Watch::look_at_end_of_call::<#f933f01a1e4bfb09>. */
-static u32 warnings_watch_Watch_look_at_end_of_call(word self, u64 before, word machine, u64 input, u64 input_len) {
+INTERNAL u32 warnings_watch_Watch_look_at_end_of_call(word self, u64 before, word machine, u64 input, u64 input_len) {
     u64 room[4];
     const word frame = (word)room;
     u64 w68 = 0u;
@@ -28208,7 +28496,7 @@ static u32 warnings_watch_Watch_close_call(word self) {
 }
 
 /* trac_warnings::watch::Watch::warn_of_ends::<#f933f01a1e4bfb09>. */
-static u32 warnings_watch_Watch_warn_of_ends(word self, u32 rule, u64 active, word here) {
+INTERNAL u32 warnings_watch_Watch_warn_of_ends(word self, u32 rule, u64 active, word here) {
     u64 room[12];
     const word frame = (word)room;
     u32 n216 = 0u;
@@ -28328,9 +28616,6 @@ static u32 warnings_watch_Watch_warn_of_ends(word self, u32 rule, u64 active, wo
     } while (w68 != w713);
     return n216;
 }
-#endif
-
-#if UNITS & 0x20
 
 /* Adds what is told of a run that a fault ended before the step that the watch looked at last: */
 static u32 warnings_watch_Watch_warn_of_fault(u64 self, word warnings, word input, u64 input_len) {
@@ -28707,20 +28992,17 @@ L170:;
     }
     return 0;
 }
-#endif
-
-#if UNITS & 0x40
 
 /* trac_warnings::watch::Watch::origin_of_form::<#f933f01a1e4bfb09>. */
 static void warnings_watch_Watch_origin_of_form(word result, word self, word machine, word begin) {
-    u64 room[20];
+    u64 room[14];
     const word frame = (word)room;
     u64 w68 = 0u;
-    word p840;
-    u64 w669;
-    u64 w279;
-    u64 w133;
-    u64 w143;
+    word p51;
+    u64 w177;
+    u64 w290;
+    u64 w889;
+    u64 w166;
     u32 n216;
     do {
         {
@@ -28756,7 +29038,13 @@ static void warnings_watch_Watch_origin_of_form(word result, word self, word mac
                 }
             }
             functions_function_function_of(frame + 64u, p211, p211 + 8u);
-            if (load8(frame + 64u) != 1u) {
+            const u32 n968 = load8(frame + 65u);
+            const u32 n135 = load8(frame + 64u);
+            store32(frame + 88u, 0u);
+            store64(frame + 80u, 0u);
+            store64(frame + 72u, 0u);
+            store64(frame + 64u, 0u);
+            if (n135 != 1u) {
                 store8(result, 0u);
                 store64(result + 32u, w345);
                 store64(result + 24u, w245);
@@ -28764,11 +29052,8 @@ static void warnings_watch_Watch_origin_of_form(word result, word self, word mac
                 store64(result + 8u, w426);
                 return;
             }
-            const u32 n843 = load8(frame + 66u);
-            const u32 n445 = load8(frame + 65u);
-            fill(frame + 64u, 0u, 96u);
-            language_table_row(frame + 64u, n445, n843);
-            if (load8(frame + 143u) == 0u) {
+            language_table_traits_of(frame + 64u, n968);
+            if (load8(frame + 75u) == 0u) {
                 store8(result, 0u);
                 store64(result + 32u, w345);
                 store64(result + 24u, w245);
@@ -28809,21 +29094,21 @@ static void warnings_watch_Watch_origin_of_form(word result, word self, word mac
             }
             warnings_performed_characters_of(frame + 24u, load64(self), p342, w69);
             if (load8(frame + 24u) == 0u) {
-                p840 = load_word(frame + 56u);
-                w669 = load64(frame + 48u);
-                w279 = load64(frame + 32u);
+                p51 = load_word(frame + 56u);
+                w177 = load64(frame + 48u);
+                w290 = load64(frame + 32u);
                 std_collections_btree_map_BTreeMap_get(frame + 8u, self + 208u, frame + 32u);
                 if ((load8(frame + 8u) & 1u) == 0u) {
-                    if (w669 != 0u) {
-                        if (load64(p840 + 32u) == 1u) {
-                            const word p973 = load_word(p840 + 24u);
-                            const u64 w844 = load64(p973 + 32u);
-                            if (load64(p973) + w844 == w279) {
-                                store64(p973 + 32u, w844 + w669);
+                    if (w177 != 0u) {
+                        if (load64(p51 + 32u) == 1u) {
+                            const word p467 = load_word(p51 + 24u);
+                            const u64 w844 = load64(p467 + 32u);
+                            if (load64(p467) + w844 == w290) {
+                                store64(p467 + 32u, w844 + w177);
                             }
                         }
-                        const word p880 = p840 + 40u;
-                        store64(p880, load64(p880) - 1u);
+                        const word p906 = p51 + 40u;
+                        store64(p906, load64(p906) - 1u);
                     }
                     store8(result, 0u);
                     store64(result + 32u, w345);
@@ -28832,9 +29117,9 @@ static void warnings_watch_Watch_origin_of_form(word result, word self, word mac
                     store64(result + 8u, w426);
                     return;
                 }
-                const word p5 = load_word(frame + 16u);
-                w133 = load64(p5 + 8u);
-                w143 = load64(p5);
+                const word p269 = load_word(frame + 16u);
+                w889 = load64(p269 + 8u);
+                w166 = load64(p269);
                 store64(frame + 104u, 0u);
                 store64(frame + 96u, 0u);
                 store64(frame + 88u, 0u);
@@ -28869,37 +29154,42 @@ static void warnings_watch_Watch_origin_of_form(word result, word self, word mac
         n216 = 0u;
     } while (0);
     const word p34 = n216;
-    if (w669 != 0u) {
-        if (load64(p840 + 32u) == 1u) {
-            const word p973 = load_word(p840 + 24u);
-            const u64 w844 = load64(p973 + 32u);
-            if (load64(p973) + w844 == w279) {
-                store64(p973 + 32u, w844 + w669);
+    if (w177 != 0u) {
+        if (load64(p51 + 32u) == 1u) {
+            const word p467 = load_word(p51 + 24u);
+            const u64 w844 = load64(p467 + 32u);
+            if (load64(p467) + w844 == w290) {
+                store64(p467 + 32u, w844 + w177);
             }
         }
-        const word p880 = p840 + 40u;
-        store64(p880, load64(p880) - 1u);
+        const word p906 = p51 + 40u;
+        store64(p906, load64(p906) - 1u);
     }
     store8(result, 0u);
     store64(result + 32u, p34);
-    store64(result + 24u, w143);
+    store64(result + 24u, w166);
     store64(result + 16u, 1u);
-    store64(result + 8u, w133);
+    store64(result + 8u, w889);
 }
 #endif
 
 #if UNITS & 0x80
 
 /* trac_warnings::watch::Watch::origin_of_argument::<#f933f01a1e4bfb09>. */
-INTERNAL void warnings_watch_Watch_origin_of_argument(word result, word self, word value, u64 value_len) {
-    u64 room[12];
+static void warnings_watch_Watch_origin_of_argument(word result, word self, word value, u64 value_len) {
+    u64 room[4];
     const word frame = (word)room;
+    u32 n216 = 0u;
     u64 w68 = 0u;
     u64 w69 = 0u;
+    store32(frame + 24u, 0u);
+    store64(frame + 16u, 0u);
+    store64(frame + 8u, 0u);
+    store64(frame, 0u);
     word p211 = load_word(self + 240u);
     u64 w904 = load64(self + 248u);
-    store8(frame + 2u, 0u);
-    store16(frame, 0u);
+    store8(frame + 30u, 0u);
+    store16(frame + 28u, 0u);
     if (w904 >= 2u) {
         if (w904 != 2u) {
             if (load8(no_address(p211 + 16u, 1u)) != 2u) {
@@ -28911,15 +29201,12 @@ INTERNAL void warnings_watch_Watch_origin_of_argument(word result, word self, wo
                 return;
             }
         }
-        functions_function_function_of(frame, no_address(p211, 1u), no_address(p211 + 8u, 1u));
-        if (load8(frame) == 1u) {
-            const u32 n218 = load8(frame + 2u);
-            const u32 n722 = load8(frame + 1u);
-            fill(frame, 0u, 96u);
-            language_table_row(frame, n722, n218);
+        functions_function_function_of(frame + 28u, no_address(p211, 1u), no_address(p211 + 8u, 1u));
+        if (load8(frame + 28u) == 1u) {
+            language_table_traits_of(frame, load8(frame + 29u));
             u64 w292;
             {
-                if (load8(frame + 88u) & 1u) {
+                if (load8(frame + 20u) == 1u) {
                     word p353 = p211;
                     {
                         while (load8(no_address(p353, 1u)) != 2u) {
@@ -29094,13 +29381,13 @@ INTERNAL void warnings_watch_Watch_origin_of_argument(word result, word self, wo
                                     n49 = load8(value + 1u);
                                 }
                                 const u32 n91 = n49;
-                                u32 n216;
+                                u32 n217;
                                 if (load8(no_address(p759, 1u))) {
-                                    n216 = 0u;
+                                    n217 = 0u;
                                 } else {
-                                    n216 = load8(no_address(p759 + 1u, 1u));
+                                    n217 = load8(no_address(p759 + 1u, 1u));
                                 }
-                                if ((n216 & 255u) != n91)
+                                if ((n217 & 255u) != n91)
                                     break;
                                 value = value + 8u;
                                 p759 = p759 + 8u;
@@ -29113,7 +29400,7 @@ INTERNAL void warnings_watch_Watch_origin_of_argument(word result, word self, wo
                         }
                     }
                 } else {
-                    if (load8(frame + 80u) != 1u) {
+                    if (load8(frame + 12u) != 1u) {
                         store64(result + 32u, 0u);
                         store64(result + 24u, 0u);
                         store64(result + 16u, 0u);
@@ -29121,9 +29408,9 @@ INTERNAL void warnings_watch_Watch_origin_of_argument(word result, word self, wo
                         store64(result, 0u);
                         return;
                     }
-                    const u32 n754 = load32(frame + 84u);
-                    const word p693 = n754;
-                    if (load64(self + 272u) < p693) {
+                    const u32 n896 = load32(frame + 16u);
+                    const word p567 = n896;
+                    if (load64(self + 272u) < p567) {
                         store64(result + 32u, 0u);
                         store64(result + 24u, 0u);
                         store64(result + 16u, 0u);
@@ -29133,8 +29420,7 @@ INTERNAL void warnings_watch_Watch_origin_of_argument(word result, word self, wo
                     }
                     u64 w70;
                     do {
-                        if (n754 != 0u) {
-                            u32 n216 = 0u;
+                        if (n896 != 0u) {
                             do {
                                 u64 w71 = 0u;
                                 {
@@ -29155,7 +29441,7 @@ INTERNAL void warnings_watch_Watch_origin_of_argument(word result, word self, wo
                                 w904 = n909 ? w904 - w301 : 0u;
                                 p211 = n909 ? ((word)w301 << 3) + p211 : TABLES + 5032u;
                                 n216 = n216 + 1u;
-                            } while (n216 != n754);
+                            } while (n216 != n896);
                             if (w904 == 0u) {
                                 w70 = 0u;
                                 break;
@@ -29195,13 +29481,13 @@ INTERNAL void warnings_watch_Watch_origin_of_argument(word result, word self, wo
                                 n49 = load8(value + 1u);
                             }
                             const u32 n91 = n49;
-                            u32 n216;
+                            u32 n217;
                             if (load8(no_address(p211, 1u))) {
-                                n216 = 0u;
+                                n217 = 0u;
                             } else {
-                                n216 = load8(no_address(p211 + 1u, 1u));
+                                n217 = load8(no_address(p211 + 1u, 1u));
                             }
-                            if ((n216 & 255u) != n91) {
+                            if ((n217 & 255u) != n91) {
                                 store64(result + 32u, 0u);
                                 store64(result + 24u, 0u);
                                 store64(result + 16u, 0u);
@@ -29214,7 +29500,7 @@ INTERNAL void warnings_watch_Watch_origin_of_argument(word result, word self, wo
                             value_len = value_len - 1u;
                         } while (value_len != 0u);
                     }
-                    w292 = (u64)p693 - (u32)(p693 != 0u);
+                    w292 = (u64)p567 - (u32)(p567 != 0u);
                 }
             }
             word p68 = 0u;
@@ -29249,7 +29535,7 @@ INTERNAL void warnings_watch_Watch_origin_of_argument(word result, word self, wo
 }
 #endif
 
-#if UNITS & 0x40
+#if UNITS & 0x20
 
 /* trac_warnings::watch::Watch::define::<#f933f01a1e4bfb09>. */
 static u32 warnings_watch_Watch_define(word self, word name) {
@@ -29492,7 +29778,7 @@ static u32 warnings_watch_Watch_count_call(word self, word name) {
 }
 
 /* trac_warnings::watch::Watch::warn_of_read::<#f933f01a1e4bfb09>. */
-static u32 warnings_watch_Watch_warn_of_read(word a1, word a2, u64 a3, u64 a4, word a5, u64 a6) {
+INTERNAL u32 warnings_watch_Watch_warn_of_read(word a1, word a2, u64 a3, u64 a4, word a5, u64 a6) {
     u64 room[8];
     const word frame = (word)room;
     u32 n89 = load8(a2 + 16u);
@@ -29677,6 +29963,9 @@ L324:;
     }
     return n89;
 }
+#endif
+
+#if UNITS & 0x80
 
 /* trac_warnings::watch::Watch::move_on::<#f933f01a1e4bfb09>. */
 static u32 warnings_watch_Watch_move_on(word self, word before, word machine, word value) {
@@ -29937,9 +30226,12 @@ static u32 warnings_watch_Watch_move_on(word self, word before, word machine, wo
     store64(p401, w189 + 1u);
     return 0u;
 }
+#endif
+
+#if UNITS & 0x20
 
 /* Adds what is suspicious in how a script is written. */
-static u32 warnings_written_look_at_script(word warnings, u64 alloc, u64 input, u64 input_len) {
+INTERNAL u32 warnings_written_look_at_script(word warnings, u64 alloc, u64 input, u64 input_len) {
     u64 room[2];
     const word frame = (word)room;
     u32 n375;
@@ -30172,207 +30464,290 @@ static u32 warnings_written_look_at_lines(word warnings, u64 alloc, word input, 
 
 /* trac_warnings::written::look_at_spelling::<#f933f01a1e4bfb09>. */
 static u32 warnings_written_look_at_spelling(word warnings, u64 alloc, u64 input, u64 input_len) {
+    u64 room[2];
+    const word frame = (word)room;
+    u32 n114 = 0u;
+    u32 n91 = 0u;
+    u32 n216;
+    if (input_len != 0u) {
+        u64 w68 = 0u;
+        do {
+            const u64 w110 = w68 + input;
+            const word p291 = load8((word)w110);
+            u32 n133;
+            u32 n142;
+            if (((u32)((((u64)1u << (p291 & 63u)) & 288231510023077888ull) != 0u) & (p291 <= 58u)) == 0u) {
+                n133 = 0u;
+                n142 = n91 & 1u;
+            } else {
+                warnings_written_look_at_mark(frame + 8u, warnings, alloc, w68, w110, input_len, n91 & 1u, n114 & 1u);
+                n133 = load8(frame + 8u);
+                n142 = load8(frame + 9u);
+            }
+            n91 = n142;
+            n216 = 1u;
+            if (n133) {
+                return n216;
+            }
+            w68 = w68 + 1u;
+            n114 = load8((word)w110) == 35u;
+            input_len = input_len - 1u;
+        } while (input_len != 0u);
+    }
+    n216 = 0u;
+    return n216;
+}
+
+/* trac_warnings::written::look_at_mark::<#f933f01a1e4bfb09>. */
+static void warnings_written_look_at_mark(word result, word warnings, u64 alloc, u64 place, u64 text, u64 text_len, u32
+    is_reported, u32 is_behind_sign) {
     u64 room[4];
     const word frame = (word)room;
     u32 n91 = 0u;
-    u32 n114 = 0u;
-    u64 w68 = 0u;
-    u32 n216;
-    if (input_len != 0u) {
-        const u64 w360 = input_len - 1u;
+    {
+        u32 n92;
         do {
-            const u64 w513 = input_len - w68;
-            const u64 w185 = w513 - 1u;
-            const u64 w110 = w68 + input;
-            const u64 w26 = w110 + 1u;
-            u32 n133;
-            u32 n92;
-            u32 n217;
-            switch (load8((word)w110) - 35u) {
-            case 23:
+            u64 w855;
             {
-                if (w185 == 0u)
-                    break;
-                if (load8((word)w26) != 40u)
-                    break;
-                store32(frame + 16u, 0u);
-                store64(frame + 8u, 0u);
-                if (w513 < 5u)
-                    break;
-                switch (load8((word)w110 + 4u) - 41u) {
-                case 0:
-                case 3:
-                    break;
-                default:
-                    goto L231;
-                }
-                store32(frame + 20u, 0u);
-                store8(frame + 17u, load8((word)w110 + 3u));
-                store8(frame + 9u, load8((word)w110 + 2u));
-                store8(frame + 30u, 0u);
-                store16(frame + 28u, 0u);
-                functions_function_function_of(frame + 28u, frame + 8u, frame + 16u);
-                if (load8(frame + 28u) != 1u)
-                    break;
-                n133 = 3u;
-                goto L798;
-            }
-            case 0:
-            {
-                if (w185 == 0u)
-                    break;
-                do {
-                    const u32 n738 = load8((word)w26);
-                    if (n738 != 40u) {
-                        if (n738 != 91u)
-                            break;
+                u32 n952;
+                {
+                    if (text_len == 0u) {
+                        store8(result + 1u, is_reported);
+                        store8(result, n91);
+                        return;
+                    }
+                    const u64 w6 = text_len - 1u;
+                    w855 = text + 1u;
+                    n952 = load8((word)text);
+                    u32 n133;
+                    u32 n93;
+                    u32 n216;
+                    switch (n952 - 35u) {
+                    case 5:
+                        goto L28;
+                    default:
+                        goto L604;
+                    case 23:
+                    {
+                        if (w6 == 0u) {
+                            store8(result + 1u, is_reported);
+                            store8(result, n91);
+                            return;
+                        }
+                        if (load8((word)w855) != 40u) {
+                            store8(result + 1u, is_reported);
+                            store8(result, n91);
+                            return;
+                        }
                         store32(frame + 16u, 0u);
                         store64(frame + 8u, 0u);
-                        if (w513 < 5u)
-                            break;
-                        const u32 n49 = load8((word)w110 + 4u);
-                        if (n49 != 44u && n49 != 93u)
-                            break;
-                        store32(frame + 20u, 0u);
-                        store8(frame + 17u, load8((word)w110 + 3u));
-                        store8(frame + 9u, load8((word)w110 + 2u));
-                        store8(frame + 30u, 0u);
-                        store16(frame + 28u, 0u);
-                        functions_function_function_of(frame + 28u, frame + 8u, frame + 16u);
-                        if (load8(frame + 28u) != 1u)
-                            break;
-                        n92 = 5u;
-                        n217 = 0u;
-                        goto L987;
-                    }
-                    store32(frame + 16u, 0u);
-                    store64(frame + 8u, 0u);
-                    if (w513 >= 5u) {
-                        switch (load8((word)w110 + 4u) - 41u) {
+                        if (text_len < 5u) {
+                            store8(result + 1u, is_reported);
+                            store8(result, n91);
+                            return;
+                        }
+                        switch (load8((word)text + 4u) - 41u) {
                         case 0:
                         case 3:
                             break;
                         default:
-                            goto L753;
+                            goto L604;
                         }
                         store32(frame + 20u, 0u);
-                        store8(frame + 17u, load8((word)w110 + 3u));
-                        store8(frame + 9u, load8((word)w110 + 2u));
+                        store8(frame + 17u, load8((word)text + 3u));
+                        store8(frame + 9u, load8((word)text + 2u));
                         store8(frame + 30u, 0u);
                         store16(frame + 28u, 0u);
                         functions_function_function_of(frame + 28u, frame + 8u, frame + 16u);
-                        if (load8(frame + 28u) == 1u)
-                            goto L231;
-                    }
-                } while (0);
-            L753:;
-                u64 w301 = w68;
-                word p110;
-                u32 n738;
-                for (;;) {
-                    p110 = (word)w301 + (word)input;
-                    n738 = load8(p110 + 1u);
-                    if (n738 <= 32u) {
-                        if ((((u64)1u << (n738 & 63u)) & 4294977024ull) != 0u) {
-                            w301 = w301 + 1u;
-                            if (w360 != w301)
-                                continue;
-                            goto L231;
+                        if (load8(frame + 28u) != 1u) {
+                            store8(result + 1u, is_reported);
+                            store8(result, n91);
+                            return;
                         }
+                        n133 = 3u;
+                        goto L788;
                     }
-                    break;
-                }
-                if (w360 == w301)
-                    break;
-                if (n738 != 40u)
-                    break;
-                store32(frame + 16u, 0u);
-                store64(frame + 8u, 0u);
-                if (w360 - w301 < 4u)
-                    break;
-                switch (load8(p110 + 4u) - 41u) {
-                case 0:
-                case 3:
-                    break;
-                default:
-                    goto L231;
-                }
-                store32(frame + 20u, 0u);
-                store8(frame + 9u, load8(p110 + 2u));
-                store8(frame + 17u, load8(p110 + 3u));
-                store8(frame + 30u, 0u);
-                store16(frame + 28u, 0u);
-                functions_function_function_of(frame + 28u, frame + 8u, frame + 16u);
-                if (load8(frame + 28u) != 1u)
-                    break;
-                n133 = 4u;
-            } /* fall through */
-        L798:;
-            {
-                n92 = n133;
-                n217 = 1u;
-            } /* fall through */
-        L987:;
-            {
-                n91 = n217;
-                const word p716 = warnings + 8u;
-                u64 w852 = load64(p716);
-                if (load64(warnings + 16u) == w852) {
-                    if (std_alloc_vec_Vec_grow_amortized3(warnings) == 0u) {
-                        n216 = 1u;
-                        return n216;
-                    }
-                    w852 = load64(warnings + 8u);
-                }
-                const word p738 = (word)w852 * 80u + load_word(warnings);
-                store64(p738 + 8u, 0u);
-                store64(p738, w68);
-                store64(p738 + 16u, 0u);
-                store64(p738 + 24u, 0u);
-                store64(p738 + 33u, 0u);
-                store8(p738 + 32u, n92);
-                store64(p738 + 40u, 0u);
-                store64(p738 + 56u, 0u);
-                store64(p738 + 64u, 0u);
-                store64(p738 + 72u, alloc);
-                store64(p738 + 48u, frame + 31u);
-                store64(p716, w852 + 1u);
-                break;
-            }
-            case 5:
-            {
-                const u32 n893 = n114 | n91;
-                n91 = 0u;
-                if ((n893 & 1u) == 0u) {
-                    store32(frame + 16u, 0u);
-                    store64(frame + 8u, 0u);
-                    if (w513 >= 4u) {
-                        if (load8((word)w110 + 3u) == 44u) {
-                            store32(frame + 20u, 0u);
-                            store8(frame + 17u, load8((word)w110 + 2u));
-                            store8(frame + 9u, load8((word)w110 + 1u));
-                            store8(frame + 30u, 0u);
-                            store16(frame + 28u, 0u);
-                            functions_function_function_of(frame + 28u, frame + 8u, frame + 16u);
-                            n216 = 1u;
-                            if (load8(frame + 28u) == 1u) {
-                                if (warnings_written_warn_at(warnings, alloc, 6u, w68, w26, 2u) & 255u) {
-                                    return n216;
+                    case 0:
+                    {
+                        if (w6 == 0u) {
+                            store8(result + 1u, is_reported);
+                            store8(result, n91);
+                            return;
+                        }
+                        do {
+                            const u32 n312 = load8((word)w855);
+                            if (n312 != 40u) {
+                                if (n312 != 91u)
+                                    break;
+                                store32(frame + 16u, 0u);
+                                store64(frame + 8u, 0u);
+                                if (text_len < 5u)
+                                    break;
+                                const u32 n979 = load8((word)text + 4u);
+                                if (n979 != 44u && n979 != 93u)
+                                    break;
+                                store32(frame + 20u, 0u);
+                                store8(frame + 17u, load8((word)text + 3u));
+                                store8(frame + 9u, load8((word)text + 2u));
+                                store8(frame + 30u, 0u);
+                                store16(frame + 28u, 0u);
+                                functions_function_function_of(frame + 28u, frame + 8u, frame + 16u);
+                                if (load8(frame + 28u) != 1u)
+                                    break;
+                                n93 = 5u;
+                                n216 = 0u;
+                                goto L576;
+                            }
+                            store32(frame + 16u, 0u);
+                            store64(frame + 8u, 0u);
+                            if (text_len >= 5u) {
+                                switch (load8((word)text + 4u) - 41u) {
+                                case 0:
+                                case 3:
+                                    break;
+                                default:
+                                    goto L131;
+                                }
+                                n91 = 0u;
+                                store32(frame + 20u, 0u);
+                                store8(frame + 17u, load8((word)text + 3u));
+                                store8(frame + 9u, load8((word)text + 2u));
+                                store8(frame + 30u, 0u);
+                                store16(frame + 28u, 0u);
+                                functions_function_function_of(frame + 28u, frame + 8u, frame + 16u);
+                                if (load8(frame + 28u) == 1u) {
+                                    store8(result + 1u, is_reported);
+                                    store8(result, n91);
+                                    return;
                                 }
                             }
+                        } while (0);
+                    L131:;
+                        u64 w68 = 0u;
+                        word p86;
+                        u32 n540;
+                        for (;;) {
+                            p86 = (word)w68 + (word)text;
+                            n540 = load8(p86 + 1u);
+                            if (n540 <= 32u) {
+                                if ((((u64)1u << (n540 & 63u)) & 4294977024ull) != 0u) {
+                                    w68 = w68 + 1u;
+                                    if (w6 != w68)
+                                        continue;
+                                    goto L453;
+                                }
+                            }
+                            break;
                         }
+                        if (w6 == w68)
+                            goto L453;
+                        if (n540 != 40u)
+                            goto L453;
+                        store32(frame + 16u, 0u);
+                        store64(frame + 8u, 0u);
+                        if (w6 - w68 < 4u)
+                            goto L453;
+                        switch (load8(p86 + 4u) - 41u) {
+                        case 0:
+                        case 3:
+                            break;
+                        default:
+                            goto L453;
+                        }
+                        store32(frame + 20u, 0u);
+                        store8(frame + 9u, load8(p86 + 2u));
+                        store8(frame + 17u, load8(p86 + 3u));
+                        store8(frame + 30u, 0u);
+                        store16(frame + 28u, 0u);
+                        functions_function_function_of(frame + 28u, frame + 8u, frame + 16u);
+                        if (load8(frame + 28u) != 1u)
+                            goto L453;
+                        n133 = 4u;
+                    } /* fall through */
+                L788:;
+                    {
+                        n93 = n133;
+                        n216 = 1u;
+                        break;
+                    }
+                    }
+                L576:;
+                    is_reported = n216;
+                    const word p716 = warnings + 8u;
+                    u64 w852 = load64(p716);
+                    if (load64(warnings + 16u) == w852) {
+                        const u32 n144 = std_alloc_vec_Vec_grow_amortized3(warnings);
+                        n92 = 1u;
+                        if (n144 == 0u)
+                            break;
+                        w852 = load64(warnings + 8u);
+                    }
+                    const word p738 = (word)w852 * 80u + load_word(warnings);
+                    store64(p738 + 8u, 0u);
+                    store64(p738, place);
+                    store64(p738 + 16u, 0u);
+                    store64(p738 + 24u, 0u);
+                    store64(p738 + 33u, 0u);
+                    store8(p738 + 32u, n93);
+                    store64(p738 + 40u, 0u);
+                    store64(p738 + 56u, 0u);
+                    store64(p738 + 64u, 0u);
+                    store64(p738 + 72u, alloc);
+                    store64(p738 + 48u, frame + 31u);
+                    store64(p716, w852 + 1u);
+                    n91 = 0u;
+                    store8(result + 1u, is_reported);
+                    store8(result, n91);
+                    return;
+                }
+            L453:;
+                if (n952 != 40u) {
+                    n91 = 0u;
+                    store8(result + 1u, is_reported);
+                    store8(result, n91);
+                    return;
+                }
+            }
+        L28:;
+            n91 = 0u;
+            n92 = n91;
+            if (is_reported == 0u) {
+                is_reported = 0u;
+                if (is_behind_sign) {
+                    store8(result + 1u, is_reported);
+                    store8(result, n91);
+                    return;
+                }
+                store32(frame + 16u, 0u);
+                store64(frame + 8u, 0u);
+                if (text_len >= 4u) {
+                    if (load8((word)text + 3u) == 44u) {
+                        store32(frame + 20u, 0u);
+                        store8(frame + 17u, load8((word)text + 2u));
+                        store8(frame + 9u, load8((word)text + 1u));
+                        store8(frame + 30u, 0u);
+                        store16(frame + 28u, 0u);
+                        functions_function_function_of(frame + 28u, frame + 8u, frame + 16u);
+                        if (load8(frame + 28u) != 1u) {
+                            store8(result + 1u, is_reported);
+                            store8(result, n91);
+                            return;
+                        }
+                        n92 = warnings_written_warn_at(warnings, alloc, 6u, place, w855, 2u) & 255u;
+                        break;
                     }
                 }
-                break;
+                store8(result + 1u, is_reported);
+                store8(result, n91);
+                return;
             }
-            }
-        L231:;
-            n114 = load8((word)w110) == 35u;
-            w68 = w68 + 1u;
-        } while (w68 != input_len);
+        } while (0);
+        n91 = n92;
+        is_reported = 0u;
     }
-    n216 = 0u;
-    return n216;
+L604:;
+    store8(result + 1u, is_reported);
+    store8(result, n91);
 }
 
 /* Adds a warning of a place of the input. */
@@ -30491,7 +30866,7 @@ static u32 warnings_written_warn_at(word warnings, u64 alloc, u32 suspicion, u64
 
 /* ---- The crate trac_views ---- */
 
-#if UNITS & 0x20
+#if UNITS & 0x40
 
 /* Adds the line of a call: */
 static u32 views_calls_push_call(word line, u64 alloc, word called, u32 width) {
@@ -33654,13 +34029,14 @@ static u32 views_lines_push_byte(word line, u32 byte) {
 
 /* ---- The crate trac_tracer ---- */
 
-#if UNITS & 0x20
+#if UNITS & 0x40
 
 /* What is odd about a call with these arguments and this value: */
 static void tracer_oddities_oddity_of(word a1, word a2, word a3, u64 a4, word a5, u64 a6, u32 a7, u32 a8) {
-    u64 room[12];
+    u64 room[16];
     const word frame = (word)room;
     u64 w68 = 0u;
+    fill(frame, 0u, 96u);
     u32 n216;
     u32 n91;
     u32 n62;
@@ -33702,17 +34078,15 @@ static void tracer_oddities_oddity_of(word a1, word a2, word a3, u64 a4, word a5
         store8(a1, n216);
         return;
     }
-    const u32 n206 = load8(a2 + 2u);
     const u32 n681 = load8(a2 + 1u);
-    fill(frame, 0u, 96u);
-    language_table_row(frame, n681, n206);
+    language_table_facts_of(frame, n681, load8(a2 + 2u));
     n216 = 1u;
     const u32 n293 = load8(a2 + 4u);
     do {
         u32 n579;
         {
             do {
-                if (load8(frame + 77u) & 1u) {
+                if (load8(frame + 77u) == 1u) {
                     n91 = 1u;
                     if (n293 == 1u)
                         break;
@@ -33747,27 +34121,31 @@ static void tracer_oddities_oddity_of(word a1, word a2, word a3, u64 a4, word a5
                 return;
             }
             n216 = 0u;
-            fill(frame, 0u, 96u);
-            language_table_row(frame, n681, n206);
-            if (load8(frame + 79u) == 2u) {
-                u64 w69 = 0u;
-                u64 w70 = 0u;
+            store32(frame + 120u, 0u);
+            u64 w69 = 0u;
+            store64(frame + 112u, 0u);
+            store64(frame + 104u, 0u);
+            store64(frame + 96u, 0u);
+            language_table_traits_of(frame + 96u, n681);
+            if (load8(frame + 107u) == 2u) {
                 {
                     if (a4 != 0u) {
                         word p4 = a3;
                         while (load8(p4) != 2u) {
                             p4 = p4 + 8u;
-                            w70 = w70 + 1u;
-                            if (w70 == a4) {
-                                w70 = a4;
+                            w69 = w69 + 1u;
+                            if (w69 == a4) {
+                                w69 = a4;
                                 break;
                             }
                         }
                     }
                 }
-                const u64 w301 = w70 + 1u;
-                const u32 n641 = w70 < a4;
+                const u64 w301 = w69 + 1u;
+                const u32 n641 = w69 < a4;
                 const word p220 = n641 ? ((word)w301 << 3) + a3 : TABLES + 5032u;
+                u64 w70 = 0u;
+                u64 w71 = 0u;
                 u64 w869;
                 {
                     const u64 w944 = a4 - w301;
@@ -33776,18 +34154,17 @@ static void tracer_oddities_oddity_of(word a1, word a2, word a3, u64 a4, word a5
                         word p221 = p220;
                         while (load8(no_address(p221, 1u)) != 2u) {
                             p221 = p221 + 8u;
-                            w69 = w69 + 1u;
-                            if (w69 == w869) {
-                                w69 = w944;
+                            w71 = w71 + 1u;
+                            if (w71 == w869) {
+                                w71 = w944;
                                 break;
                             }
                         }
                     }
                 }
-                const u64 w302 = w69 + 1u;
-                const u32 n15 = w69 >= w869;
+                const u64 w302 = w71 + 1u;
+                const u32 n15 = w71 >= w869;
                 const word p955 = n15 ? TABLES + 5032u : ((word)w302 << 3) + p220;
-                u64 w71 = 0u;
                 {
                     if (n15 == 0u) {
                         const u64 w528 = w869 - w302;
@@ -33795,9 +34172,9 @@ static void tracer_oddities_oddity_of(word a1, word a2, word a3, u64 a4, word a5
                             word p12 = p955;
                             while (load8(no_address(p12, 1u)) != 2u) {
                                 p12 = p12 + 8u;
-                                w71 = w71 + 1u;
-                                if (w71 == w528) {
-                                    w71 = w528;
+                                w70 = w70 + 1u;
+                                if (w70 == w528) {
+                                    w70 = w528;
                                     break;
                                 }
                             }
@@ -33814,7 +34191,7 @@ static void tracer_oddities_oddity_of(word a1, word a2, word a3, u64 a4, word a5
                 }
                 if (n681 == 14u) {
                     n91 = 0u;
-                    if (w71 == 0u) {
+                    if (w70 == 0u) {
                         store8(a1 + 1u, n91);
                         store8(a1, n216);
                         return;
@@ -33822,9 +34199,9 @@ static void tracer_oddities_oddity_of(word a1, word a2, word a3, u64 a4, word a5
                     u64 w72 = 0u;
                     u32 n217 = 0u;
                     do {
-                        if (w71 != 1u) {
-                            const word p276 = (word)w71 & 1u;
-                            const u64 w195 = w71 & 18446744073709551614ull;
+                        if (w70 != 1u) {
+                            const word p276 = (word)w70 & 1u;
+                            const u64 w195 = w70 & 18446744073709551614ull;
                             word p12 = p955;
                             do {
                                 u32 n218 = 0u;
@@ -33874,7 +34251,7 @@ static void tracer_oddities_oddity_of(word a1, word a2, word a3, u64 a4, word a5
                     return;
                 }
                 n91 = 0u;
-                if (w71 == 0u) {
+                if (w70 == 0u) {
                     store8(a1 + 1u, n91);
                     store8(a1, n216);
                     return;
@@ -34018,14 +34395,14 @@ static void tracer_oddities_oddity_of(word a1, word a2, word a3, u64 a4, word a5
 
 /* trac_tracer::shown::Shown::look_at_call::<#f933f01a1e4bfb09>. */
 static u32 tracer_shown_Shown_look_at_call(word self, word machine, word call) {
-    u64 room[12];
+    u64 room[6];
     const word frame = (word)room;
-    u32 n90 = 0u;
+    u32 n216 = 0u;
     const word p430 = self + 120u;
     u64 w552;
     u64 w445;
-    u32 n216;
     u32 n217;
+    u32 n218;
     do {
         {
             const u32 n403 = load32(machine + 16u);
@@ -34050,7 +34427,7 @@ static u32 tracer_shown_Shown_look_at_call(word self, word machine, word call) {
                                 goto L401;
                         }
                         functions_function_function_of(frame, (word)w552, no_address((word)w552 + 8u, 1u));
-                        n90 = (load8(frame + 2u) << 16) | load16(frame);
+                        n216 = (load8(frame + 2u) << 16) | load16(frame);
                     } else if (w445 == 0u) {
                         break;
                     }
@@ -34126,19 +34503,19 @@ static u32 tracer_shown_Shown_look_at_call(word self, word machine, word call) {
                 w69 = 0u;
             } while (0);
             core_machine_Machine_form_named(frame, machine, no_address(p839, 1u), w69);
-            n216 = 1u;
+            n217 = 1u;
             if (load8(frame) == 1u) {
-                n217 = load32(frame + 40u);
+                n218 = load32(frame + 40u);
                 break;
             }
         }
     L28:;
-        n216 = 0u;
         n217 = 0u;
+        n218 = 0u;
     } while (0);
-    store32(p430, n217);
-    store32(self + 116u, n216);
-    store32(self + 112u, n90);
+    store32(p430, n218);
+    store32(self + 116u, n217);
+    store32(self + 112u, n216);
     const word p254 = self + 88u;
     if (load64(p254) != 0u) {
         store64(p254, 0u);
@@ -34205,15 +34582,18 @@ static u32 tracer_shown_Shown_look_at_call(word self, word machine, word call) {
     }
     const u64 w243 = load64(self);
     const word p485 = self + 128u;
-    u32 n218;
-    if ((n90 & 255u) == 1u) {
-        fill(frame, 0u, 96u);
-        language_table_row(frame, n90 >> 8, n90 >> 16);
-        n218 = (load8(frame + 78u) & 1u) ? load8(frame + 76u) : 0u;
+    u32 n79;
+    if ((n216 & 255u) == 1u) {
+        store64(frame + 16u, 0u);
+        store64(frame + 8u, 0u);
+        store64(frame, 0u);
+        store32(frame + 24u, 0u);
+        language_table_traits_of(frame, n216 >> 8);
+        n79 = load8(frame + 10u) ? load8(frame + 8u) : 0u;
     } else {
-        n218 = 0u;
+        n79 = 0u;
     }
-    n375 = views_deleted_push_deleted(p485, w243, n218, (word)w552, w445, machine, load32(self + 32u)) & 255u;
+    n375 = views_deleted_push_deleted(p485, w243, n79, (word)w552, w445, machine, load32(self + 32u)) & 255u;
     return n375;
 }
 
@@ -34508,10 +34888,10 @@ static u32 tracer_shown_Shown_add_step(word self, word before, word machine, u32
 /* trac_tracer::shown::Shown::add_call::<#f933f01a1e4bfb09>. */
 static u32 tracer_shown_Shown_add_call(word self, word before, word machine, u64 value, u64 value_len, u64 printed, u64
     printed_len) {
-    u64 room[34];
+    u64 room[28];
     const word frame = (word)room;
-    u32 n92 = 0u;
-    u32 n181 = 0u;
+    u32 n216 = 0u;
+    u32 n177 = 0u;
     u64 w68 = 0u;
     u32 n180;
     u64 w733;
@@ -34521,12 +34901,12 @@ static u32 tracer_shown_Shown_add_call(word self, word before, word machine, u64
     {
         fill(frame + 16u, 0u, 120u);
         if (load8(before + 40u) != 1u) {
-            return n181;
+            return n177;
         }
         n180 = load8(before + 48u);
         if (load8(self + 40u) == 0u) {
             if (load8(self + 41u) != 1u) {
-                return n181;
+                return n177;
             }
         }
         w733 = load64(self + 80u);
@@ -34548,10 +34928,10 @@ static u32 tracer_shown_Shown_add_call(word self, word before, word machine, u64
         const u32 n439 = w68 >= w713;
         const word p611 = n439 ? TABLES + 5032u : ((word)w301 << 3) + (word)w733;
         u64 w353;
-        u32 n93;
-        u32 n125;
+        u32 n92;
+        u32 n217;
         {
-            u32 n216;
+            u32 n218;
             do {
                 word p68;
                 {
@@ -34593,14 +34973,14 @@ static u32 tracer_shown_Shown_add_call(word self, word before, word machine, u64
                             u64 w354 = w353;
                             do {
                                 if (load8(no_address(p34, 1u))) {
-                                    n93 = 0u;
-                                    n125 = 0u;
+                                    n92 = 0u;
+                                    n217 = 0u;
                                     goto L576;
                                 }
                                 p34 = p34 + 8u;
                                 w354 = w354 - 1u;
                             } while (w354 != 0u);
-                            n216 = 0u;
+                            n218 = 0u;
                             break;
                         }
                     }
@@ -34614,15 +34994,15 @@ static u32 tracer_shown_Shown_add_call(word self, word before, word machine, u64
                 }
             L753:;
                 w353 = p68;
-                n216 = 1u;
+                n218 = 1u;
             } while (0);
-            n93 = n216;
+            n92 = n218;
             core_machine_Machine_form_named(frame + 176u, machine, p611, w353);
-            n92 = load8(frame + 176u) == 1u;
-            n125 = n92 ? load32(frame + 216u) : 0u;
+            n216 = load8(frame + 176u) == 1u;
+            n217 = n216 ? load32(frame + 216u) : 0u;
         }
     L576:;
-        n91 = n125;
+        n91 = n217;
         const word p785 = self + 168u;
         if (load64(p785) != 0u) {
             store64(p785, 0u);
@@ -34631,12 +35011,14 @@ static u32 tracer_shown_Shown_add_call(word self, word before, word machine, u64
         if (load8(p217) == 1u) {
             const u32 n503 = load32(self + 32u);
             const u64 w243 = load64(self);
-            const u32 n800 = load8(self + 114u);
             const u32 n607 = load8(self + 113u);
-            fill(frame + 176u, 0u, 96u);
-            language_table_row(frame + 176u, n607, n800);
-            if ((load8(frame + 254u) & 1u) != 0u) {
-                if (load8(frame + 252u) == 1u) {
+            store32(frame + 200u, 0u);
+            store64(frame + 192u, 0u);
+            store64(frame + 184u, 0u);
+            store64(frame + 176u, 0u);
+            language_table_traits_of(frame + 176u, n607);
+            if (load8(frame + 186u) == 1u) {
+                if (load8(frame + 184u) == 1u) {
                     store64(frame + 216u, 0u);
                     store64(frame + 208u, 0u);
                     store64(frame + 200u, 0u);
@@ -34645,7 +35027,7 @@ static u32 tracer_shown_Shown_add_call(word self, word before, word machine, u64
                     store64(frame + 176u, 0u);
                     word p33 = p611;
                     u64 w354 = w353;
-                    if (n93 == 0u) {
+                    if (n92 == 0u) {
                         do {
                             if (load8(no_address(p33, 1u)))
                                 goto L891;
@@ -34659,10 +35041,10 @@ static u32 tracer_shown_Shown_add_call(word self, word before, word machine, u64
                     store64(frame + 152u, load64(frame + 200u));
                     store64(frame + 160u, load64(frame + 208u));
                     store64(frame + 168u, load64(frame + 216u));
-                    n181 = 1u;
+                    n177 = 1u;
                     if (load8(frame + 176u) == 1u) {
                         if (views_forms_push_form(self + 160u, w243, frame + 136u, n503) & 255u) {
-                            return n181;
+                            return n177;
                         }
                     }
                 }
@@ -34676,7 +35058,7 @@ L891:;
     const u64 w876 = load64(self + 128u);
     const u64 w859 = load64(self + 136u);
     const u64 w548 = load64(machine + 72u);
-    tracer_oddities_oddity_of(frame + 8u, p217, (word)w733, w713, (word)value, value_len, n92, n91);
+    tracer_oddities_oddity_of(frame + 8u, p217, (word)w733, w713, (word)value, value_len, n216, n91);
     store32(frame + 33u, 0u);
     store8(frame + 32u, n180);
     store64(frame + 24u, w548);
@@ -34697,8 +35079,8 @@ L891:;
     const u64 w243 = load64(self);
     store16(frame + 134u, 0u);
     store32(frame + 130u, 0u);
-    n181 = views_events_push_event(self + 48u, w243, self + 8u, frame + 16u) & 255u;
-    return n181;
+    n177 = views_events_push_event(self + 48u, w243, self + 8u, frame + 16u) & 255u;
+    return n177;
 }
 
 /* trac_tracer::shown::Shown::add_forms::<#f933f01a1e4bfb09>. */
@@ -34959,7 +35341,7 @@ static u32 tracer_shown_Shown_add_forms(word self, word machine) {
 
 /* ---- The crate trac_checker ---- */
 
-#if UNITS & 0x40
+#if UNITS & 0x80
 
 /* Runs the script that the source gives, in a block of cells and with at most `steps` steps, and keeps what is
  * suspicious, but not what is printed. */
@@ -38248,12 +38630,9 @@ INTERNAL u32 checker_run_add_fault(word findings, u64 alloc, u64 watch, u32 fate
     store64(p867, load64(p867) - 1u);
     return n216;
 }
-#endif
-
-#if UNITS & 0x40
 
 /* trac_checker::run::add_names::<#f933f01a1e4bfb09>. */
-static u32 checker_run_add_names(word findings, u64 alloc, u64 input, u64 input_len) {
+INTERNAL u32 checker_run_add_names(word findings, u64 alloc, u64 input, u64 input_len) {
     u64 room[28];
     const word frame = (word)room;
     u64 w68 = 0u;
@@ -38332,7 +38711,7 @@ static u32 checker_run_add_names(word findings, u64 alloc, u64 input, u64 input_
 }
 #endif
 
-#if UNITS & 0x20
+#if UNITS & 0x40
 
 /* Adds a line for each warning, which begins with `head`, in the order of their places in `input`, the whole input;
  * but no line for a warning that another one explains. */
@@ -38904,10 +39283,10 @@ static u32 checker_run_WatchedRun_push_line(word a1, word a2, word a3, u64 a4, u
     }
     const word p274 = load8(a3 + 32u);
     const word p697 = p274 << 3;
-    const u64 w573 = table64(p697 + TABLES + 8608u);
-    const u64 w679 = table64(p697 + TABLES + 8248u);
-    if (w511 - w326 < w679) {
-        if (std_alloc_vec_Vec_grow_amortized4(a2, w679) == 0u) {
+    const u64 w885 = table64(p697 + TABLES + 8416u);
+    const u64 w746 = table64(p697 + TABLES + 8056u);
+    if (w511 - w326 < w746) {
+        if (std_alloc_vec_Vec_grow_amortized4(a2, w746) == 0u) {
             n216 = 1u;
             return n216;
         }
@@ -38918,36 +39297,36 @@ static u32 checker_run_WatchedRun_push_line(word a1, word a2, word a3, u64 a4, u
     u64 w69 = 0u;
     store64(p284 + 8u, 0u);
     store64(p284, 0u);
-    const u64 w832 = w326 + w679;
+    const u64 w824 = w746 + w326;
     const u64 w599 = w442 + w326;
-    if (w599 - w573 < w679) {
-        const u64 w548 = w679 & 18446744073709551612ull;
-        u64 w88 = (word)w679 & 3u;
+    if (w599 - w885 < w746) {
+        const u64 w601 = w746 & 18446744073709551612ull;
+        u64 w254 = (word)w746 & 3u;
         do {
             const word p199 = (word)w69 + (word)w599;
-            const word p191 = (word)w573 + (word)w69;
-            store8(p199, load8(p191));
-            store8(p199 + 1u, load8(p191 + 1u));
-            store8(p199 + 2u, load8(p191 + 2u));
-            store8(p199 + 3u, load8(p191 + 3u));
+            const word p897 = (word)w69 + (word)w885;
+            store8(p199, load8(p897));
+            store8(p199 + 1u, load8(p897 + 1u));
+            store8(p199 + 2u, load8(p897 + 2u));
+            store8(p199 + 3u, load8(p897 + 3u));
             w69 = w69 + 4u;
-        } while (w69 != w548);
+        } while (w69 != w601);
         if (((word)((u64)1u << (p274 & 63u)) & 558563392u) == 0u) {
-            word p191 = (word)w573 + (word)w69;
+            word p301 = (word)w69 + (word)w885;
             word p199 = (word)w69 + (word)w599;
             do {
-                store8(p199, load8(p191));
+                store8(p199, load8(p301));
                 p199 = p199 + 1u;
-                p191 = p191 + 1u;
-                w88 = w88 - 1u;
-            } while (w88 != 0u);
+                p301 = p301 + 1u;
+                w254 = w254 - 1u;
+            } while (w254 != 0u);
         }
-    } else if (w679 != 0u) {
-        copy((word)w599, (word)w573, (word)w679);
+    } else if (w746 != 0u) {
+        copy((word)w599, (word)w885, (word)w746);
     }
     store64(a2, w442);
     store64(a2 + 16u, w511);
-    store64(a2 + 8u, w832);
+    store64(a2 + 8u, w824);
     n216 = 1u;
     if (views_escapes_push_text(a2, load_word(a3 + 48u), load64(a3 + 56u)) & 255u) {
         return n216;
@@ -39883,11 +40262,11 @@ static INLINE u64 engine_find_form(word machine, u64 name, u64 name_len) {
 }
 #endif
 
-#if UNITS & 0x20
+#if UNITS & 0x40
 
 /* Runs a script as `trac_engine_run` does, and puts the lines on what is suspicious in it to the front of `to`, as
  * `trac_trace --warn` prints them: */
-static void engine_check(word result, u64 block, u64 cells, u64 steps, u64 script, u64 script_len, u64 memory, u64
+INTERNAL void engine_check(word result, u64 block, u64 cells, u64 steps, u64 script, u64 script_len, u64 memory, u64
     units, u64 to, u64 to_len) {
     u64 room[126];
     const word frame = (word)room;
@@ -40755,7 +41134,7 @@ L383:;
 }
 #endif
 
-#if UNITS & 0x3
+#if UNITS & 0x11
 
 /* trac_c::devices::OverflowSinkSink::put_all. */
 INTERNAL u32 c_devices_OverflowSinkSink_put_all(word self, word text) {
@@ -40811,7 +41190,7 @@ INTERNAL u32 c_devices_OverflowSinkSink_put_all(word self, word text) {
 }
 #endif
 
-#if UNITS & 0x7
+#if UNITS & 0x19
 
 /* Puts the characters of a text to a place of a buffer, as far as that reaches, and gives how many it put. */
 static INLINE u64 c_filling_put_characters(word text, u64 place, word room_, u64 room_len) {
@@ -41069,171 +41448,167 @@ INTERNAL u64 engine_function_count(void) {
 INTERNAL u32 engine_function_fact(u64 k, u32 which) {
     u64 room[14];
     const word frame = (word)room;
-    u32 n40 = 0u;
+    u32 n109 = 0u;
     {
         {
-            store8(frame + 14u, 0u);
-            store16(frame + 12u, 0u);
-            language_table_function_at(frame + 12u, k);
-            if (load8(frame + 12u) != 1u) {
-                return n40;
+            store8(frame + 110u, 0u);
+            store16(frame + 108u, 0u);
+            fill(frame + 8u, 0u, 96u);
+            language_table_function_at(frame + 108u, k);
+            if (load8(frame + 108u) != 1u) {
+                return n109;
             }
-            const u32 n607 = load8(frame + 14u);
-            const u32 n150 = load8(frame + 13u);
-            fill(frame + 16u, 0u, 96u);
-            language_table_row(frame + 16u, n150, n607);
+            language_table_facts_of(frame + 8u, load8(frame + 109u), load8(frame + 110u));
             switch (which) {
             case 0:
-                goto L130;
+                goto L95;
             case 10:
                 break;
             default:
                 goto L941;
             case 1:
             {
-                n40 = load8(frame + 92u);
-                return n40;
+                n109 = load8(frame + 84u);
+                return n109;
             }
             case 2:
             {
-                n40 = load8(frame + 93u) & 1u;
-                return n40;
+                n109 = load8(frame + 85u) & 1u;
+                return n109;
             }
             case 3:
             {
-                n40 = load8(frame + 94u) & 1u;
-                return n40;
+                n109 = load8(frame + 86u) & 1u;
+                return n109;
             }
             case 4:
             {
-                n40 = load8(frame + 95u);
-                return n40;
+                n109 = load8(frame + 87u);
+                return n109;
             }
             case 5:
             {
-                n40 = load8(frame + 96u) == 1u ? load32(frame + 100u) : 0u;
-                return n40;
+                n109 = load8(frame + 88u) == 1u ? load32(frame + 92u) : 0u;
+                return n109;
             }
             case 6:
             {
-                n40 = load8(frame + 104u) & 1u;
-                return n40;
+                n109 = load8(frame + 96u) & 1u;
+                return n109;
             }
             case 7:
             {
-                n40 = load8(frame + 105u) & 1u;
-                return n40;
+                n109 = load8(frame + 97u) & 1u;
+                return n109;
             }
             case 8:
             {
-                n40 = load8(frame + 106u) & 1u;
-                return n40;
+                n109 = load8(frame + 98u) & 1u;
+                return n109;
             }
             case 9:
             {
-                n40 = load8(frame + 107u) & 1u;
-                return n40;
+                n109 = load8(frame + 99u) & 1u;
+                return n109;
             }
             }
-            n40 = load8(frame + 108u) & 1u;
-            return n40;
+            n109 = load8(frame + 100u) & 1u;
+            return n109;
         }
-    L130:;
-        n40 = load8(frame + 84u) == 1u ? load32(frame + 88u) : 4294967295u;
+    L95:;
+        n109 = load8(frame + 76u) == 1u ? load32(frame + 80u) : 4294967295u;
     }
 L941:;
-    return n40;
+    return n109;
 }
-#endif
-
-#if UNITS & 0x2
 
 /* The length of a text about function `k`, from 0, which goes to the front of `to`, as much of it as fits. */
-static u64 engine_function_text(u64 k, u32 which, u64 to, u64 to_len) {
+INTERNAL u64 engine_function_text(u64 k, u32 which, u64 to, u64 to_len) {
     u64 room[14];
     const word frame = (word)room;
-    u64 w51 = 0u;
-    store8(frame + 14u, 0u);
-    store16(frame + 12u, 0u);
-    language_table_function_at(frame + 12u, k);
-    if (load8(frame + 12u) != 1u) {
-        return w51;
+    u64 w68 = 0u;
+    store8(frame + 110u, 0u);
+    store16(frame + 108u, 0u);
+    fill(frame + 8u, 0u, 96u);
+    language_table_function_at(frame + 108u, k);
+    if (load8(frame + 108u) != 1u) {
+        return w68;
     }
     const word p304 = to == 0u ? 4096u : 0u;
     const u64 w981 = p304 + to;
-    const u32 n607 = load8(frame + 14u);
-    const u32 n150 = load8(frame + 13u);
-    fill(frame + 16u, 0u, 96u);
-    language_table_row(frame + 16u, n150, n607);
-    u64 w177 = TABLES + 5032u;
+    language_table_facts_of(frame + 8u, load8(frame + 109u), load8(frame + 110u));
+    u64 w51 = TABLES + 5032u;
     switch (which) {
     case 0:
     {
-        w51 = load64(frame + 24u);
-        w177 = load64(frame + 16u);
+        w51 = load64(frame + 8u);
+        w68 = load64(frame + 16u);
         break;
     }
     case 1:
     {
-        w51 = load64(frame + 40u);
-        w177 = load64(frame + 32u);
+        w51 = load64(frame + 24u);
+        w68 = load64(frame + 32u);
         break;
     }
     case 2:
     {
-        w51 = load64(frame + 56u);
-        w177 = load64(frame + 48u);
+        w51 = load64(frame + 40u);
+        w68 = load64(frame + 48u);
         break;
     }
     case 3:
     {
-        w51 = load64(frame + 72u);
-        w177 = load64(frame + 64u);
+        w51 = load64(frame + 56u);
+        w68 = load64(frame + 64u);
         break;
     }
     case 4:
     {
-        const word p981 = (word)load8(frame + 80u) << 3;
-        w51 = table64(p981 + TABLES + 9200u);
-        w177 = table64(p981 + TABLES + 9152u);
+        const word p771 = (word)load8(frame + 72u) << 3;
+        w68 = table64(p771 + TABLES + 9200u);
+        w51 = table64(p771 + TABLES + 9152u);
         break;
     }
     }
-    const u64 w820 = w51 > to_len ? to_len : w51;
-    if (w981 - w177 < w820) {
+    const u64 w820 = w68 > to_len ? to_len : w68;
+    if (w981 - w51 < w820) {
         u64 w641 = (word)w820 & 3u;
-        u64 w68 = 0u;
+        u64 w69 = 0u;
         if (w820 >= 4u) {
             const u64 w154 = w820 & 18446744073709551612ull;
             do {
-                const word p5 = (word)w981 + (word)w68;
-                const word p596 = (word)w68 + (word)w177;
+                const word p5 = (word)w981 + (word)w69;
+                const word p596 = (word)w69 + (word)w51;
                 store8(p5, load8(no_address(p596, 1u)));
                 store8(p5 + 1u, load8(no_address(p596 + 1u, 1u)));
                 store8(p5 + 2u, load8(no_address(p596 + 2u, 1u)));
                 store8(p5 + 3u, load8(no_address(p596 + 3u, 1u)));
-                w68 = w68 + 4u;
-            } while (w68 != w154);
+                w69 = w69 + 4u;
+            } while (w69 != w154);
             if (w641 == 0u) {
-                return w51;
+                return w68;
             }
         }
-        word p301 = (word)w68 + (word)w177;
-        word p302 = (word)w68 + p304 + (word)to;
+        word p301 = (word)w69 + (word)w51;
+        word p302 = (word)w69 + p304 + (word)to;
         do {
             store8(p302, load8(no_address(p301, 1u)));
             p302 = p302 + 1u;
             p301 = p301 + 1u;
             w641 = w641 - 1u;
         } while (w641 != 0u);
-        return w51;
+        return w68;
     }
     if (w820 == 0u) {
-        return w51;
+        return w68;
     }
-    copy((word)w981, no_address((word)w177, (word)w820), (word)w820);
-    return w51;
+    copy((word)w981, no_address((word)w51, (word)w820), (word)w820);
+    return w68;
 }
+#endif
+
+#if UNITS & 0x2
 
 /* Says whether turns of the machine at a place stop before a call whose name is no function, so that the host can
  * give its value: */
@@ -43159,12 +43534,9 @@ static INLINE u32 engine_take_peak(word machine) {
     store32(p61, 0u);
     return n40;
 }
-#endif
-
-#if UNITS & 0x8
 
 /* Has the machine at a place keep in mind where form `k` begins, from 0, in the order of definition: */
-INTERNAL void engine_turn_to_form(word machine, u64 k) {
+static void engine_turn_to_form(word machine, u64 k) {
     u64 room[2];
     const word frame = (word)room;
     if (k <= 4294967295u) {
@@ -43363,10 +43735,10 @@ INTERNAL void engine_run(word result, u64 block, u64 cells, u64 steps, u64 scrip
 }
 #endif
 
-#if UNITS & 0x20
+#if UNITS & 0x40
 
 /* Has the machine at a place make a step as a turn does, and puts what is shown of it to the front of `lines`: */
-static void engine_trace_step(word result, word machine, word trace, u64 input, u64 input_len, u64 output, u64
+INTERNAL void engine_trace_step(word result, word machine, word trace, u64 input, u64 input_len, u64 output, u64
     output_len, u32 ended, u64 memory, u64 units, u64 lines, u64 lines_len) {
     u64 room[68];
     const word frame = (word)room;
@@ -45921,13 +46293,10 @@ INTERNAL void c_turn_take_turn(word result, word machine, u64 input, u64 input_l
 static INLINE u64 engine_form_count(word machine) {
     return load32(machine + 40u);
 }
-#endif
-
-#if UNITS & 0x10
 
 /* The length of the name of form `k`, from 0, in the order of definition; the name goes to the front of `to`, as
  * much of it as fits. */
-INTERNAL u64 engine_form_name(word machine, u64 k, u64 to, u64 to_len) {
+static u64 engine_form_name(word machine, u64 k, u64 to, u64 to_len) {
     u64 room[6];
     const word frame = (word)room;
     u64 w61 = 0u;
@@ -45988,6 +46357,9 @@ INTERNAL u64 engine_form_name(word machine, u64 k, u64 to, u64 to_len) {
     store8(p526, n216);
     return w61;
 }
+#endif
+
+#if UNITS & 0x10
 
 /* The length of the display of form `k`, as `pf` prints it: */
 INTERNAL u64 engine_form_text(word machine, u64 k, u64 to, u64 to_len) {
@@ -46006,12 +46378,9 @@ INTERNAL u64 engine_form_text(word machine, u64 k, u64 to, u64 to_len) {
     }
     return w68;
 }
-#endif
-
-#if UNITS & 0x2
 
 /* How many items the body of form `k` has. */
-static u64 engine_form_codes(word machine, u64 k, u64 to, u64 to_len) {
+INTERNAL u64 engine_form_codes(word machine, u64 k, u64 to, u64 to_len) {
     u64 room[6];
     const word frame = (word)room;
     word p68 = 0u;
@@ -46070,9 +46439,6 @@ static u64 engine_form_codes(word machine, u64 k, u64 to, u64 to_len) {
     p68 = p33;
     return p68;
 }
-#endif
-
-#if UNITS & 0x4
 
 /* How many items of form `k` stand in front of its pointer, 0 if there is no such form. */
 INTERNAL u64 engine_form_pointer(word machine, u64 k) {
@@ -46261,7 +46627,7 @@ static INLINE u64 engine_calls(word machine, u64 to, u64 to_len) {
 }
 #endif
 
-#if UNITS & 0x4
+#if UNITS & 0x8
 
 /* How many arguments the call has that the next step performs, its name counted; 0 if it performs no call, where the
  * run is over, and where the allowance is used up. */
@@ -46305,6 +46671,9 @@ INTERNAL u64 engine_argument_count(word machine) {
     p34 = n216;
     return p34;
 }
+#endif
+
+#if UNITS & 0x4
 
 /* The length of argument `which` of the call that the next step performs, the name being argument 0; the argument
  * goes to the front of `to`, as much of it as fits. */
@@ -46567,14 +46936,14 @@ INTERNAL u64 engine_steps_to_call(word machine, u64 most) {
 L129:;
     return w68;
 }
-
-/* The rule that the next step follows: */
-INTERNAL u32 engine_rule(word machine) {
-    return core_machine_Machine_next_rule(machine) & 255u;
-}
 #endif
 
 #if UNITS & 0x2
+
+/* The rule that the next step follows: */
+static u32 engine_rule(word machine) {
+    return core_machine_Machine_next_rule(machine) & 255u;
+}
 
 /* The cells of a part of the block: */
 static INLINE u64 engine_part(word machine, u32 which) {
@@ -46743,7 +47112,7 @@ INTERNAL void engine_run_zeroed(word result, u64 block, u64 cells, u64 steps, u6
 
 /* ---- What the compiler makes and takes from its own libraries ---- */
 
-#if UNITS & 0xf
+#if UNITS & 0x17
 
 /* __ashlti3: numbers of 128 bits, which WebAssembly lacks. */
 static INLINE void ashlti3(word a1, u64 a2, u64 a3, u32 a4) {
@@ -46764,7 +47133,7 @@ static INLINE void ashlti3(word a1, u64 a2, u64 a3, u32 a4) {
 }
 #endif
 
-#if UNITS & 0x40
+#if UNITS & 0x20
 
 /* bumpalo::bump::Bump::alloc_layout_slow: of a library of the compiler. */
 INTERNAL void bumpalo_bump_Bump_alloc_layout_slow(word a1, word a2, u64 a3, word a4) {
@@ -47716,7 +48085,7 @@ static u32 core_cmp_slices_groups_equal(word a1, u64 a2, word a3) {
 }
 #endif
 
-#if UNITS & 0x20
+#if UNITS & 0x40
 
 /* core::slice::edits::mirror: of a library of the compiler. */
 static INLINE void core_slice_edits_mirror(word a1, word a2, u64 a3) {
@@ -47745,7 +48114,7 @@ static INLINE void core_slice_edits_mirror(word a1, word a2, u64 a3) {
 }
 #endif
 
-#if UNITS & 0x60
+#if UNITS & 0xc0
 
 /* core::slice::edits::mirror, for other types: of a library of the compiler. */
 static INLINE void core_slice_edits_mirror2(word a1, word a2, u64 a3) {
@@ -47773,7 +48142,7 @@ static INLINE void core_slice_edits_mirror2(word a1, word a2, u64 a3) {
 }
 #endif
 
-#if UNITS & 0x40
+#if UNITS & 0x80
 
 /* core::slice::edits::mirror, for other types: of a library of the compiler. */
 static INLINE void core_slice_edits_mirror3(word a1, word a2, u64 a3) {
@@ -47811,7 +48180,7 @@ static INLINE void core_slice_edits_mirror3(word a1, word a2, u64 a3) {
 }
 #endif
 
-#if UNITS & 0x11
+#if UNITS & 0x3
 
 /* core::slice::reads::slice+T::contains: of a library of the compiler. */
 INTERNAL u32 core_slice_reads_slice_T_contains(word a1, u64 a2, word a3) {
@@ -48237,7 +48606,7 @@ static INLINE void itoa_Buffer_format(word a1, u64 a2, u64 a3) {
 }
 #endif
 
-#if UNITS & 0x9
+#if UNITS & 0x11
 
 /* itoa::Buffer::format, for other types: of a library of the compiler. */
 INTERNAL void itoa_Buffer_format2(word a1, u64 a2, u64 a3, u64 a4) {
@@ -48346,7 +48715,7 @@ INTERNAL void itoa_Buffer_format2(word a1, u64 a2, u64 a3, u64 a4) {
 }
 #endif
 
-#if UNITS & 0x77
+#if UNITS & 0xd5
 
 /* itoa::integer::write_unsigned: of a library of the compiler. */
 static INLINE u64 itoa_integer_write_unsigned(u64 a1, word a2) {
@@ -48389,7 +48758,7 @@ static INLINE u64 itoa_integer_write_unsigned(u64 a1, word a2) {
 }
 #endif
 
-#if UNITS & 0xf
+#if UNITS & 0x17
 
 /* __lshrti3: numbers of 128 bits, which WebAssembly lacks. */
 static INLINE void lshrti3(word a1, u64 a2, u64 a3, u32 a4) {
@@ -48431,7 +48800,7 @@ static INLINE void rattle_export_trac_engine_cell_size(void) {
 }
 #endif
 
-#if UNITS & 0x80
+#if UNITS & 0x20
 
 /* std_alloc::compared::VecOrd::cmp: of a library of the compiler. */
 static INLINE u32 std_alloc_compared_VecOrd_cmp(word a1, word a2) {
@@ -48507,7 +48876,7 @@ static INLINE u32 std_alloc_compared_VecOrd_cmp(word a1, word a2) {
 }
 #endif
 
-#if UNITS & 0x40
+#if UNITS & 0x80
 
 /* std_alloc::vec::Vec::drop: of a library of the compiler. */
 static INLINE void std_alloc_vec_Vec_drop(word a1) {
@@ -48906,9 +49275,12 @@ static u32 std_alloc_vec_Vec_grow_amortized(word a1) {
     n216 = 1u;
     return n216;
 }
+#endif
+
+#if UNITS & 0x20
 
 /* std_alloc::vec::Vec::grow_amortized, for other types: of a library of the compiler. */
-static u32 std_alloc_vec_Vec_grow_amortized2(word a1) {
+INTERNAL u32 std_alloc_vec_Vec_grow_amortized2(word a1) {
     u64 room[4];
     const word frame = (word)room;
     u32 n216 = 0u;
@@ -49375,7 +49747,7 @@ INTERNAL u32 std_alloc_vec_Vec_grow_amortized3(word a1) {
 }
 #endif
 
-#if UNITS & 0x20
+#if UNITS & 0x40
 
 /* std_alloc::vec::Vec::grow_amortized, for other types: of a library of the compiler. */
 INTERNAL u32 std_alloc_vec_Vec_grow_amortized4(word a1, u64 a2) {
@@ -49448,7 +49820,7 @@ INTERNAL u32 std_alloc_vec_Vec_grow_amortized4(word a1, u64 a2) {
 }
 #endif
 
-#if UNITS & 0x40
+#if UNITS & 0x20
 
 /* std_alloc::vec::Vec::grow_amortized, for other types: of a library of the compiler. */
 INTERNAL u32 std_alloc_vec_Vec_grow_amortized5(word a1, u64 a2) {
@@ -49522,7 +49894,7 @@ INTERNAL u32 std_alloc_vec_Vec_grow_amortized5(word a1, u64 a2) {
 }
 
 /* std_alloc::vec::Vec::grow_amortized, for other types: of a library of the compiler. */
-INTERNAL u32 std_alloc_vec_Vec_grow_amortized6(word a1) {
+static u32 std_alloc_vec_Vec_grow_amortized6(word a1) {
     u64 room[4];
     const word frame = (word)room;
     u32 n216 = 0u;
@@ -50142,7 +50514,7 @@ static INLINE void std_alloc_vec_Vec_remove(word a1, word a2, word a3) {
 }
 #endif
 
-#if UNITS & 0x40
+#if UNITS & 0x80
 
 /* std_alloc::vec::Vec::remove, for other types: of a library of the compiler. */
 INTERNAL void std_alloc_vec_Vec_remove2(word a1, word a2, word a3) {
@@ -50783,6 +51155,9 @@ INTERNAL void std_alloc_vec_Vec_remove2(word a1, word a2, word a3) {
     store64(a1 + 8u, load64(frame + 8u));
     store64(a1, load64(frame));
 }
+#endif
+
+#if UNITS & 0x20
 
 /* std_alloc::vec::Vec::with_capacity: of a library of the compiler. */
 static void std_alloc_vec_Vec_with_capacity(word a1, u64 a2, u64 a3) {
@@ -50870,7 +51245,7 @@ static void std_alloc_vec_Vec_with_capacity(word a1, u64 a2, u64 a3) {
 }
 #endif
 
-#if UNITS & 0x60
+#if UNITS & 0xa0
 
 /* std_alloc::vec::deque::VecDeque::drop: of a library of the compiler. */
 static INLINE void std_alloc_vec_deque_VecDeque_drop(word a1) {
@@ -50937,7 +51312,7 @@ static INLINE void std_alloc_vec_deque_VecDeque_drop(word a1) {
 }
 #endif
 
-#if UNITS & 0x40
+#if UNITS & 0x20
 
 /* std_alloc::vec::lodged::Vec+T+Lodged::insert_reserved: of a library of the compiler. */
 static void std_alloc_vec_lodged_Vec_T_Lodged_insert_reserved(word a1, word a2, word a3) {
@@ -51141,9 +51516,6 @@ static void std_alloc_vec_lodged_Vec_T_Lodged_insert_reserved(word a1, word a2, 
     store64(a1 + 8u, w39 + 1u);
     store64(a1, w996);
 }
-#endif
-
-#if UNITS & 0x80
 
 /* std_alloc::vec::lodged::Vec+T+Lodged::insert_reserved, for other types: of a library of the compiler. */
 static INLINE void std_alloc_vec_lodged_Vec_T_Lodged_insert_reserved2(word a1, word a2, word a3) {
@@ -51444,6 +51816,9 @@ static INLINE void std_alloc_vec_lodged_Vec_T_Lodged_insert_reserved3(word a1, w
     store64(a1 + 8u, w39 + 1u);
     store64(a1, w996);
 }
+#endif
+
+#if UNITS & 0x80
 
 /* std_alloc::vec::lodged::Vec+T+Lodged::insert_reserved, for other types: of a library of the compiler. */
 INTERNAL void std_alloc_vec_lodged_Vec_T_Lodged_insert_reserved4(word a1, word a2, word a3) {
@@ -52544,6 +52919,9 @@ static INLINE void std_collections_btree_iter_Cursor_advance(word a1, u64 a2, u6
     store64(a1 + 32u, 0u);
     store64(a1 + 40u, 0u);
 }
+#endif
+
+#if UNITS & 0x40
 
 /* std_collections::btree::iter::Cursor::advance, for other types: of a library of the compiler. */
 static INLINE void std_collections_btree_iter_Cursor_advance_i64(word a1, u64 a2, u64 a3, u64 a4, u64 a5) {
@@ -52657,7 +53035,7 @@ static INLINE void std_collections_btree_iter_Cursor_advance_i64(word a1, u64 a2
 }
 #endif
 
-#if UNITS & 0x40
+#if UNITS & 0x20
 
 /* std_collections::btree_map::BTreeMap::get: of a library of the compiler. */
 static void std_collections_btree_map_BTreeMap_get(word a1, word a2, word a3) {
@@ -53548,6 +53926,9 @@ L393:;
     store64(a1 + 72u, load64(frame + 168u));
     store64(a1 + 80u, load64(frame + 176u));
 }
+#endif
+
+#if UNITS & 0x80
 
 /* std_collections::btree::node::Node::destroy: of a library of the compiler. */
 static void std_collections_btree_node_Node_destroy(u64 a1, word a2) {
@@ -54367,7 +54748,7 @@ static void std_collections_btree_node_Node_destroy3(u64 a1, word a2) {
 }
 #endif
 
-#if UNITS & 0x20
+#if UNITS & 0x40
 
 /* std_collections::btree::node::Node::destroy, for other types: of a library of the compiler. */
 static void std_collections_btree_node_Node_destroy4(u64 a1, word a2) {
@@ -55187,7 +55568,7 @@ static void std_collections_btree_node_Node_destroy6(u64 a1, word a2) {
 }
 #endif
 
-#if UNITS & 0x40
+#if UNITS & 0x20
 
 /* std_collections::btree::node::parts::Parts::new: of a library of the compiler. */
 static void std_collections_btree_node_parts_Parts_new(word a1, word a2, u64 a3) {
@@ -55302,7 +55683,7 @@ L753:;
 }
 
 /* std_collections::btree::node::parts::Parts::new, for other types: of a library of the compiler. */
-INTERNAL void std_collections_btree_node_parts_Parts_new2(word a1, word a2, u64 a3) {
+static void std_collections_btree_node_parts_Parts_new2(word a1, word a2, u64 a3) {
     u64 room[4];
     const word frame = (word)room;
     u64 w68 = 0u;
@@ -55530,7 +55911,7 @@ L753:;
 }
 #endif
 
-#if UNITS & 0x20
+#if UNITS & 0x40
 
 /* std_collections::btree::row::Row::reverse: of a library of the compiler. */
 INTERNAL void std_collections_btree_row_Row_reverse(word a1) {
@@ -55800,7 +56181,7 @@ INTERNAL void std_collections_btree_row_Row_reverse(word a1) {
 }
 #endif
 
-#if UNITS & 0x40
+#if UNITS & 0x80
 
 /* std_collections::btree::row::Row::reverse, for other types: of a library of the compiler. */
 INTERNAL void std_collections_btree_row_Row_reverse2(word a1) {
@@ -56453,7 +56834,7 @@ INTERNAL void std_collections_btree_row_Row_reverse2(word a1) {
 }
 #endif
 
-#if UNITS & 0x20
+#if UNITS & 0x40
 
 /* std_collections::btree::row::Row::reverse, for other types: of a library of the compiler. */
 INTERNAL void std_collections_btree_row_Row_reverse_i64(word a1) {
