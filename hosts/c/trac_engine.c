@@ -4,7 +4,7 @@
  * and what compilers make of it (memcpy, memset) alone.
  *
  * Crates: trac_language trac_space trac_values trac_store trac_forms trac_devices trac_functions trac_laws trac_core trac_image trac_events trac_warnings trac_lent trac_views trac_tracer trac_checker trac_c
- * Sources: 1543568f6dc4894064d33bc29a95791b2d8b338230fee3008a9e6a745d9aa9dd
+ * Sources: f4565c34637cd956c13fe35ff9ca3d2c1ded5c54185f63e7e5e13561df90e7e8
  * Kit: rattle-kit-13f logic dac8208d650f15bf
  * Tools: wasm-opt version 108, wabt 1.0.32
  */
@@ -198,17 +198,17 @@ HELPER u32 rem32_u(u32 a, u32 b) {
     return a % b;
 }
 /* Instructions:
- * block 2581, br 1937, br_if 4157, br_table 109, call 1097, drop 149, else 189, end 5835, global.get 290, global.set
- * 421, i32.add 1202, i32.and 661, i32.clz 2, i32.const 5666, i32.div_u 8, i32.eq 752, i32.eqz 1006, i32.extend8_s 1,
- * i32.ge_s 2, i32.ge_u 150, i32.gt_s 9, i32.gt_u 226, i32.le_u 50, i32.load 1543, i32.load16_u 207, i32.load8_s 22,
- * i32.load8_u 2612, i32.lt_s 14, i32.lt_u 228, i32.mul 25, i32.ne 629, i32.or 416, i32.rem_u 1, i32.shl 181,
- * i32.shr_u 65, i32.store 974, i32.store16 430, i32.store8 901, i32.sub 783, i32.wrap_i64 238, i32.xor 19, i64.add
- * 13915, i64.and 610, i64.clz 11, i64.const 20626, i64.div_s 2, i64.div_u 16, i64.eq 383, i64.eqz 1169,
- * i64.extend_i32_u 1062, i64.ge_s 274, i64.ge_u 252, i64.gt_u 507, i64.le_s 10, i64.le_u 278, i64.load 7190,
- * i64.load16_u 29, i64.load32_u 160, i64.load8_u 179, i64.lt_s 26, i64.lt_u 434, i64.mul 298, i64.ne 1136, i64.or 71,
- * i64.rem_u 39, i64.shl 1842, i64.shr_s 9, i64.shr_u 115, i64.store 6506, i64.store16 17, i64.store32 13, i64.store8
- * 22, i64.sub 2995, i64.xor 43, if 2368, local.get 43425, local.set 10063, local.tee 8300, loop 886, memory.copy 256,
- * memory.fill 41, return 261, select 946, unreachable 294
+ * block 2568, br 1934, br_if 4134, br_table 109, call 1102, drop 150, else 188, end 5825, global.get 295, global.set
+ * 430, i32.add 1202, i32.and 666, i32.clz 2, i32.const 5675, i32.div_u 8, i32.eq 752, i32.eqz 1003, i32.extend8_s 1,
+ * i32.ge_s 2, i32.ge_u 150, i32.gt_s 9, i32.gt_u 225, i32.le_u 50, i32.load 1543, i32.load16_u 207, i32.load8_s 22,
+ * i32.load8_u 2610, i32.lt_s 14, i32.lt_u 229, i32.mul 25, i32.ne 629, i32.or 416, i32.rem_u 1, i32.shl 181,
+ * i32.shr_u 65, i32.store 974, i32.store16 430, i32.store8 905, i32.sub 783, i32.wrap_i64 238, i32.xor 19, i64.add
+ * 13952, i64.and 604, i64.clz 11, i64.const 20634, i64.div_s 2, i64.div_u 16, i64.eq 382, i64.eqz 1156,
+ * i64.extend_i32_u 1062, i64.ge_s 279, i64.ge_u 250, i64.gt_u 505, i64.le_s 10, i64.le_u 279, i64.load 7195,
+ * i64.load16_u 29, i64.load32_u 160, i64.load8_u 173, i64.lt_s 26, i64.lt_u 431, i64.mul 298, i64.ne 1137, i64.or 71,
+ * i64.rem_u 39, i64.shl 1833, i64.shr_s 9, i64.shr_u 115, i64.store 6509, i64.store16 17, i64.store32 13, i64.store8
+ * 22, i64.sub 2988, i64.xor 43, if 2374, local.get 43429, local.set 10045, local.tee 8309, loop 883, memory.copy 256,
+ * memory.fill 41, return 265, select 946, unreachable 299
  */
 
 #ifdef TRAC_UNIT
@@ -220,7 +220,6 @@ HELPER u32 rem32_u(u32 a, u32 b) {
 #define space_space_Space_try_reserve_without_index trac_unit_space_space_Space_try_reserve_without_index
 #define space_space_Space_drop_index_area trac_unit_space_space_Space_drop_index_area
 #define space_space_Space_push_over_index trac_unit_space_space_Space_push_over_index
-#define space_space_Space_copy_store trac_unit_space_space_Space_copy_store
 #define space_space_Space_remove_store trac_unit_space_space_Space_remove_store
 #define values_comparing_longer_greater trac_unit_values_comparing_longer_greater
 #define values_number_longest_tail trac_unit_values_number_longest_tail
@@ -233,11 +232,13 @@ HELPER u32 rem32_u(u32 a, u32 b) {
 #define forms_index_grow_index trac_unit_forms_index_grow_index
 #define forms_index_index_from trac_unit_forms_index_index_from
 #define forms_index_index_worthwhile trac_unit_forms_index_index_worthwhile
+#define forms_work_Work_stored trac_unit_forms_work_Work_stored
 #define forms_work_Work_delete_by_name trac_unit_forms_work_Work_delete_by_name
 #define forms_work_Work_find_among_few trac_unit_forms_work_Work_find_among_few
 #define forms_work_Work_find_among_more trac_unit_forms_work_Work_find_among_more
 #define forms_work_Work_load_other_part trac_unit_forms_work_Work_load_other_part
 #define forms_work_Work_active_to_neutral trac_unit_forms_work_Work_active_to_neutral
+#define devices_slice_source_SliceSourceSource_take_held trac_unit_devices_slice_source_SliceSourceSource_take_held
 #define functions_arguments_Arguments_next trac_unit_functions_arguments_Arguments_next
 #define functions_arguments_put_part trac_unit_functions_arguments_put_part
 #define functions_arithmetic_arithmetic trac_unit_functions_arithmetic_arithmetic
@@ -265,11 +266,9 @@ HELPER u32 rem32_u(u32 a, u32 b) {
 #define core_idling_begin_idling trac_unit_core_idling_begin_idling
 #define core_machine_advancing_go_on trac_unit_core_machine_advancing_go_on
 #define core_machine_answering_unknown_call trac_unit_core_machine_answering_unknown_call
-#define core_machine_printing_call_len trac_unit_core_machine_printing_call_len
 #define core_machine_Machine_form_named trac_unit_core_machine_Machine_form_named
 #define core_machine_Machine_next_function trac_unit_core_machine_Machine_next_function
 #define core_read_in_place_read_in_place trac_unit_core_read_in_place_read_in_place
-#define core_read_in_place_scan_string trac_unit_core_read_in_place_scan_string
 #define core_runs_matching trac_unit_core_runs_matching
 #define core_scan_scan_once trac_unit_core_scan_scan_once
 #define core_scan_add_characters trac_unit_core_scan_add_characters
@@ -277,14 +276,18 @@ HELPER u32 rem32_u(u32 a, u32 b) {
 #define core_streaming_read_text trac_unit_core_streaming_read_text
 #define warnings_arguments_look_at_arguments trac_unit_warnings_arguments_look_at_arguments
 #define warnings_findings_Findings_add trac_unit_warnings_findings_Findings_add
-#define warnings_operands_look_at_both trac_unit_warnings_operands_look_at_both
+#define warnings_findings_count trac_unit_warnings_findings_count
 #define warnings_performed_warn trac_unit_warnings_performed_warn
 #define warnings_performed_characters_of trac_unit_warnings_performed_characters_of
 #define warnings_watch_Watch_warn_of_rule trac_unit_warnings_watch_Watch_warn_of_rule
 #define warnings_watch_Watch_look_at_end_of_call trac_unit_warnings_watch_Watch_look_at_end_of_call
 #define warnings_watch_Watch_warn_of_ends trac_unit_warnings_watch_Watch_warn_of_ends
+#define warnings_watch_Watch_follow_row trac_unit_warnings_watch_Watch_follow_row
 #define warnings_watch_Watch_warn_of_read trac_unit_warnings_watch_Watch_warn_of_read
+#define warnings_watch_Watch_move_on trac_unit_warnings_watch_Watch_move_on
 #define warnings_written_look_at_script trac_unit_warnings_written_look_at_script
+#define views_deleted_push_deleted trac_unit_views_deleted_push_deleted
+#define tracer_shown_Shown_look_at_call trac_unit_tracer_shown_Shown_look_at_call
 #define checker_run_watched trac_unit_checker_run_watched
 #define checker_run_add_fault trac_unit_checker_run_add_fault
 #define checker_run_add_names trac_unit_checker_run_add_names
@@ -292,24 +295,17 @@ HELPER u32 rem32_u(u32 a, u32 b) {
 #define engine_define_text trac_unit_engine_define_text
 #define engine_delete trac_unit_engine_delete
 #define engine_delete_all trac_unit_engine_delete_all
-#define engine_check trac_unit_engine_check
 #define c_devices_OverflowSinkSink_put_all trac_unit_c_devices_OverflowSinkSink_put_all
 #define c_forms_lay_shown trac_unit_c_forms_lay_shown
-#define engine_function_count trac_unit_engine_function_count
 #define engine_function_fact trac_unit_engine_function_fact
 #define engine_function_text trac_unit_engine_function_text
 #define engine_answer trac_unit_engine_answer
-#define engine_load trac_unit_engine_load
-#define engine_machine_size trac_unit_engine_machine_size
-#define engine_cell_size trac_unit_engine_cell_size
+#define engine_save trac_unit_engine_save
 #define engine_turn trac_unit_engine_turn
+#define engine_turn_to_form trac_unit_engine_turn_to_form
 #define engine_skip_print trac_unit_engine_skip_print
 #define engine_run trac_unit_engine_run
-#define engine_trace_step trac_unit_engine_trace_step
 #define c_turn_take_turn trac_unit_c_turn_take_turn
-#define engine_form_text trac_unit_engine_form_text
-#define engine_form_codes trac_unit_engine_form_codes
-#define engine_form_pointer trac_unit_engine_form_pointer
 #define engine_argument_count trac_unit_engine_argument_count
 #define engine_argument trac_unit_engine_argument
 #define engine_printed trac_unit_engine_printed
@@ -321,13 +317,11 @@ HELPER u32 rem32_u(u32 a, u32 b) {
 #define bumpalo_bump_Bump_alloc_layout_slow trac_unit_bumpalo_bump_Bump_alloc_layout_slow
 #define core_alloc_RefAllocator_grow trac_unit_core_alloc_RefAllocator_grow
 #define core_slice_reads_slice_T_contains trac_unit_core_slice_reads_slice_T_contains
-#define itoa_Buffer_format2 trac_unit_itoa_Buffer_format2
+#define std_alloc_vec_Vec_grow_amortized trac_unit_std_alloc_vec_Vec_grow_amortized
 #define std_alloc_vec_Vec_grow_amortized2 trac_unit_std_alloc_vec_Vec_grow_amortized2
 #define std_alloc_vec_Vec_grow_amortized3 trac_unit_std_alloc_vec_Vec_grow_amortized3
-#define std_alloc_vec_Vec_grow_amortized4 trac_unit_std_alloc_vec_Vec_grow_amortized4
-#define std_alloc_vec_Vec_grow_amortized5 trac_unit_std_alloc_vec_Vec_grow_amortized5
 #define std_alloc_vec_Vec_remove2 trac_unit_std_alloc_vec_Vec_remove2
-#define std_alloc_vec_lodged_Vec_T_Lodged_insert_reserved4 trac_unit_std_alloc_vec_lodged_Vec_T_Lodged_insert_reserved4
+#define std_collections_btree_node_parts_Parts_new2 trac_unit_std_collections_btree_node_parts_Parts_new2
 #define std_collections_btree_row_Row_reverse trac_unit_std_collections_btree_row_Row_reverse
 #define std_collections_btree_row_Row_reverse2 trac_unit_std_collections_btree_row_Row_reverse2
 #define std_collections_btree_row_Row_reverse_i64 trac_unit_std_collections_btree_row_Row_reverse_i64
@@ -767,7 +761,7 @@ HELPER u64 table64(word place) {
 static INLINE void language_table_function_at(word result, u64 k);
 #endif
 
-#if UNITS & 0x51
+#if UNITS & 0x31
 INTERNAL void language_table_facts_of(word a1, u32 a2, u32 a3);
 #endif
 
@@ -775,11 +769,11 @@ INTERNAL void language_table_facts_of(word a1, u32 a2, u32 a3);
 INTERNAL void language_table_traits_of(word result, u32 function);
 #endif
 
-#if UNITS & 0x5
+#if UNITS & 0x9
 static INLINE u64 space_byte_search_count_before(u32 stop, word text, u64 text_len);
 #endif
 
-#if UNITS & 0xdd
+#if UNITS & 0xbd
 INTERNAL void space_byte_writing_write_many(word a1, word a2, u64 a3);
 #endif
 
@@ -797,7 +791,7 @@ static void space_filling_fill_each(word a1, word a2, word a3, u64 a4, word a5, 
 static INLINE void space_filling_put_untagged(word cells, u64 cells_len, word start, u64 to, u64 n, u64 given);
 #endif
 
-#if UNITS & 0xdd
+#if UNITS & 0xbd
 INTERNAL u32 space_space_Space_try_reserve_without_index(word self, u64 n);
 #endif
 
@@ -805,7 +799,7 @@ INTERNAL u32 space_space_Space_try_reserve_without_index(word self, u64 n);
 INTERNAL void space_space_Space_drop_index_area(word self);
 #endif
 
-#if UNITS & 0x5
+#if UNITS & 0x9
 static void space_space_Space_move_active(word self, u32 n);
 #endif
 
@@ -813,48 +807,51 @@ static void space_space_Space_move_active(word self, u32 n);
 INTERNAL u32 space_space_Space_push_over_index(word self, word cell);
 #endif
 
-#if UNITS & 0xd
-INTERNAL u32 space_space_Space_copy_store(word self, u32 a, u32 b);
+#if UNITS & 0x5
+static u32 space_space_Space_copy_store(word self, u32 a, u32 b);
+#endif
+
+#if UNITS & 0x1d
 INTERNAL void space_space_Space_remove_store(word self, u32 a, u32 b);
 #endif
 
-#if UNITS & 0x11
+#if UNITS & 0x9
 static void space_space_Space_write_part(word self, u32 at, u32 a, u32 b);
 #endif
 
-#if UNITS & 0x9
+#if UNITS & 0x5
 static INLINE void values_bit_string_shifted_digit(word result, word digits, u64 digits_len, u32 by_negative, u32
     by_size, u32 k);
 static INLINE void values_bit_string_rotated_digit(word result, word digits, u64 digits_len, u32 by, u32 k);
 #endif
 
-#if UNITS & 0x7
+#if UNITS & 0x15
 INTERNAL u32 values_comparing_longer_greater(word a, u64 a_len, word b, u64 b_len);
 #endif
 
-#if UNITS & 0x3
+#if UNITS & 0x11
 static INLINE u32 values_comparing_long_greater(word a, u64 a_len, word b, u64 b_len);
 #endif
 
-#if UNITS & 0x7
+#if UNITS & 0xb
 INTERNAL void values_number_longest_tail(word result, word cells, u64 cells_len);
 INTERNAL void values_number_result_of(word result, u32 operation, word a, word b);
 #endif
 
-#if UNITS & 0xd
+#if UNITS & 0x15
 static INLINE u32 store_arguments_before_far_comma(word cells, u64 cells_len);
 #endif
 
-#if UNITS & 0x9
+#if UNITS & 0x5
 static INLINE void store_borders_tag_borders(word space, u32 part_from, u32 part_to);
 #endif
 
-#if UNITS & 0x1b
+#if UNITS & 0x19
 static INLINE void store_form_cells_find_between_by_call(word a1, word a2, u32 a3, u32 a4, u32 a5, word a6, u64 a7);
 INTERNAL void store_form_cells_find_from_last(word a1, word a2, u32 a3, u32 a4, u32 a5, word a6, u64 a7);
 #endif
 
-#if UNITS & 0x8f
+#if UNITS & 0x8d
 INTERNAL void store_item_copies_load_items_over_index(word result, word space, u32 items_from, u32 items_to);
 #endif
 
@@ -863,47 +860,47 @@ INTERNAL void store_item_copies_fill_gaps(word result, word space, u32 items_fro
     texts_to, u32 no_comma_from);
 #endif
 
-#if UNITS & 0x9
+#if UNITS & 0x5
 static u32 forms_work_Work_copy_body(word self, u32 form, u32 a, u32 b);
 #endif
 
-#if UNITS & 0x1d
+#if UNITS & 0x19
 INTERNAL void forms_work_Work_remove(word self, u32 form_number, u32 form_start);
 #endif
 
-#if UNITS & 0x9d
+#if UNITS & 0x8f
 INTERNAL void forms_work_Work_delete_all(word self);
 #endif
 
-#if UNITS & 0x9
+#if UNITS & 0x5
 static void forms_work_Work_set_pointer(word self, u32 form, u32 pointer);
 #endif
 
-#if UNITS & 0x15
+#if UNITS & 0xb
 INTERNAL void forms_index_grow_index(word space, u32 count);
 #endif
 
-#if UNITS & 0xd
+#if UNITS & 0x19
 INTERNAL void forms_index_index_from(word space, u32 first_number, u32 first_start, u32 count);
 #endif
 
-#if UNITS & 0x5
+#if UNITS & 0x9
 static u32 forms_index_index_fitting(word space, u32 count);
 #endif
 
-#if UNITS & 0x1d
+#if UNITS & 0x19
 INTERNAL void forms_index_index_worthwhile(word space, u32 count, word search_cost);
 #endif
 
-#if UNITS & 0x9f
-static INLINE void forms_work_Work_stored(word result, word self, u32 form);
+#if UNITS & 0x87
+INTERNAL void forms_work_Work_stored(word result, word self, u32 form);
 #endif
 
-#if UNITS & 0x14
+#if UNITS & 0xa
 INTERNAL u32 forms_work_Work_delete_by_name(word self, word name, u64 name_len);
 #endif
 
-#if UNITS & 0x9
+#if UNITS & 0x5
 static INLINE void forms_work_Work_next_char(word result, word self, u32 form, u32 from);
 #endif
 
@@ -911,7 +908,7 @@ static INLINE void forms_work_Work_next_char(word result, word self, u32 form, u
 static INLINE u32 forms_work_Work_place_of(word self, u32 k);
 #endif
 
-#if UNITS & 0x7
+#if UNITS & 0xd
 static INLINE void forms_work_Work_form(word result, word self, u32 k);
 #endif
 
@@ -920,12 +917,12 @@ INTERNAL void forms_work_Work_find_among_few(word result, word self, u32 a, u32 
 INTERNAL void forms_work_Work_find_among_more(word result, word self, u32 a, u32 b);
 #endif
 
-#if UNITS & 0x9
+#if UNITS & 0x5
 static INLINE u32 forms_work_Work_body_len(word self, u32 form);
 static INLINE u32 forms_work_Work_pointer(word self, u32 form);
 #endif
 
-#if UNITS & 0xc5
+#if UNITS & 0xa5
 static INLINE void forms_work_Work_cut_neutral(word self, u32 n);
 #endif
 
@@ -937,12 +934,12 @@ static void forms_work_Work_drop_neutral(word self, u32 a, u32 b);
 INTERNAL u32 forms_work_Work_load_other_part(word self, u32 a, u32 b);
 #endif
 
-#if UNITS & 0xd5
+#if UNITS & 0xbd
 INTERNAL void forms_work_Work_active_to_neutral(word self, u32 n);
 #endif
 
-#if UNITS & 0x5
-static void devices_slice_source_SliceSourceSource_take_held(word self, u32 stop, word neutral);
+#if UNITS & 0xd
+INTERNAL void devices_slice_source_SliceSourceSource_take_held(word self, u32 stop, word neutral);
 #endif
 
 #if UNITS & 0x9d
@@ -957,7 +954,7 @@ INTERNAL u32 functions_arguments_put_part(word work, u32 part_from, u32 part_to)
 INTERNAL void functions_arithmetic_arithmetic(word result, word work, u32 operation, word arguments);
 #endif
 
-#if UNITS & 0x5
+#if UNITS & 0x9
 static void functions_arithmetic_long_arithmetic(word result, word work, u32 operation, u32 first_from, u32 first_to,
     u32 second_from, u32 second_to, u32 other_from, u32 other_to, u32 scanned);
 #endif
@@ -970,29 +967,29 @@ INTERNAL void functions_bit_strings_shift(word result, word work, word arguments
 INTERNAL void functions_bit_strings_rotate(word result, word work, word arguments);
 #endif
 
-#if UNITS & 0x9
+#if UNITS & 0x5
 static void functions_bit_strings_give_bits(word a1, word a2, u32 a3, u32 a4, word a5);
 #endif
 
 #if UNITS & 0x8d
 INTERNAL void functions_comparing_equal(word result, word work, word arguments);
 INTERNAL void functions_comparing_greater(word result, word work, word arguments);
+INTERNAL void functions_form_calls_define_string(word result, word work, word arguments);
+INTERNAL void functions_form_calls_segment_string(word result, word work, word arguments);
+INTERNAL void functions_form_calls_list_names(word result, word work, word arguments);
 #endif
 
 #if UNITS & 0x9d
-INTERNAL void functions_form_calls_define_string(word result, word work, word arguments);
+INTERNAL void functions_form_calls_delete_definition(word result, word work, word arguments);
 #endif
 
 #if UNITS & 0x8d
-INTERNAL void functions_form_calls_segment_string(word result, word work, word arguments);
-INTERNAL void functions_form_calls_list_names(word result, word work, word arguments);
-INTERNAL void functions_form_calls_delete_definition(word result, word work, word arguments);
 INTERNAL void functions_form_parts_call_segment(word result, word work, word arguments);
 INTERNAL void functions_form_parts_call_character(word result, word work, word arguments);
 INTERNAL void functions_form_parts_call_number(word result, word work, word arguments);
 #endif
 
-#if UNITS & 0x9
+#if UNITS & 0x5
 static void functions_form_parts_take_part(word result, word work, u32 form, u32 part_from, u32 part_to, u32 pointer);
 #endif
 
@@ -1001,15 +998,15 @@ INTERNAL void functions_form_parts_initial_part(word result, word work, word arg
 INTERNAL void functions_form_parts_call_restore(word result, word work, word arguments);
 #endif
 
-#if UNITS & 0xf5
+#if UNITS & 0xfd
 INTERNAL void functions_function_function_of(word result, word first, word second);
 #endif
 
-#if UNITS & 0x59
+#if UNITS & 0x35
 INTERNAL void core_call_answer(word a1, word a2, word a3, u32 a4, u32 a5, word a6, word a7, word a8);
 #endif
 
-#if UNITS & 0xdd
+#if UNITS & 0xbd
 INTERNAL void core_delivery_deliver(word work, u32 place, u32 from);
 #endif
 
@@ -1017,31 +1014,31 @@ INTERNAL void core_delivery_deliver(word work, u32 place, u32 from);
 static u32 core_display_show_items(word form, u32 from, u32 to);
 #endif
 
-#if UNITS & 0x10
+#if UNITS & 0x2
 static u32 core_display_show_items2(word form, u32 from, u32 to, word sink);
 #endif
 
-#if UNITS & 0x19
+#if UNITS & 0x15
 INTERNAL u32 core_display_show_items3(word form, u32 from, u32 to, word sink);
 #endif
 
-#if UNITS & 0x15
+#if UNITS & 0x7
 INTERNAL u32 core_display_show_items4(word form, u32 from, u32 to, word sink);
 #endif
 
-#if UNITS & 0x40
+#if UNITS & 0x20
 static u32 core_display_show_items5(word form, u32 from, u32 to, word sink);
 #endif
 
-#if UNITS & 0x11
+#if UNITS & 0x7
 static INLINE u32 core_display_display_len(word form);
 #endif
 
-#if UNITS & 0x15
+#if UNITS & 0x19
 INTERNAL void core_idling_begin_idling(word work);
 #endif
 
-#if UNITS & 0x85
+#if UNITS & 0x8d
 INTERNAL void core_machine_advancing_go_on(word result, word work, word meta, u32 no_comma_from, word at, u64 most, u32
     performer);
 #endif
@@ -1050,7 +1047,7 @@ INTERNAL void core_machine_advancing_go_on(word result, word work, word meta, u3
 static void core_machine_advancing_go_on2(word a1, word a2, word a3, word a4, u64 a5, word a6, word a7);
 #endif
 
-#if UNITS & 0x1d
+#if UNITS & 0xd
 INTERNAL void core_machine_answering_unknown_call(word result, word work, u32 no_comma_from);
 #endif
 
@@ -1058,40 +1055,43 @@ INTERNAL void core_machine_answering_unknown_call(word result, word work, u32 no
 static void core_machine_Machine_argument(word result, word self, u32 which);
 #endif
 
-#if UNITS & 0x15
-INTERNAL u32 core_machine_printing_call_len(word work, u32 call_place, u32 call_no_comma_from);
+#if UNITS & 0x5
+static u32 core_machine_printing_call_len(word work, u32 call_place, u32 call_no_comma_from);
 #endif
 
-#if UNITS & 0x67
+#if UNITS & 0x75
 INTERNAL void core_machine_Machine_form_named(word result, word self, word name, u64 name_len);
 #endif
 
-#if UNITS & 0xd5
+#if UNITS & 0xa5
 INTERNAL void core_machine_Machine_next_function(word result, word self);
 #endif
 
-#if UNITS & 0xc2
+#if UNITS & 0xa2
 static INLINE u32 core_machine_Machine_next_rule(word self);
 #endif
 
-#if UNITS & 0x14
+#if UNITS & 0x18
 INTERNAL void core_read_in_place_read_in_place(word result, word work, u64 most, u32 meta, word source);
-INTERNAL void core_read_in_place_scan_string(word result, word work, u64 most);
 #endif
 
-#if UNITS & 0x11
+#if UNITS & 0x8
+static void core_read_in_place_scan_string(word result, word work, u64 most);
+#endif
+
+#if UNITS & 0x19
 static INLINE u32 core_runs_ordinary_run(word cells, u64 cells_len, u64 known);
 #endif
 
-#if UNITS & 0xd1
+#if UNITS & 0xb1
 INTERNAL void core_runs_matching(word result, word cells, u64 cells_len);
 #endif
 
-#if UNITS & 0xd5
+#if UNITS & 0xb5
 INTERNAL void core_scan_scan_once(word result, word work, u32 no_comma_from);
 #endif
 
-#if UNITS & 0x15
+#if UNITS & 0x19
 INTERNAL u64 core_scan_add_characters(word work, u64 most, word hints);
 static INLINE u64 core_scan_begin_argument(word work, u64 most, word hints);
 #endif
@@ -1101,7 +1101,7 @@ static INLINE u64 core_scan_add_run_within(void);
 static u64 core_scan_add_long_run(word work, u64 most);
 #endif
 
-#if UNITS & 0x15
+#if UNITS & 0x19
 INTERNAL void core_scan_protect(word work);
 #endif
 
@@ -1109,52 +1109,47 @@ INTERNAL void core_scan_protect(word work);
 INTERNAL u32 core_streaming_read_text(word work, u32 meta, word source);
 #endif
 
-#if UNITS & 0x10
+#if UNITS & 0x2
 static void image_reading_heads_of(word result, word text, u64 text_len);
 static void image_reading_behind_form(word result, u64 text, u64 text_len);
 #endif
 
-#if UNITS & 0x20
+#if UNITS & 0x40
 static INLINE void events_call_argument(word result, u64 arguments, u64 arguments_len);
 #endif
 
 #if UNITS & 0x60
 INTERNAL u32 warnings_arguments_look_at_arguments(word warnings, u64 alloc, word form, word ending);
-static INLINE void warnings_blanks_before_last_blanks(word result, u64 cells, u64 cells_len);
 #endif
 
-#if UNITS & 0x20
+#if UNITS & 0x40
+static void warnings_blanks_trimmed(word result, u64 cells, u64 cells_len);
+static INLINE void warnings_blanks_before_last_blanks(word result, u64 cells, u64 cells_len);
 static u32 warnings_bodies_look_at_body(word warnings, u64 alloc, u32 function, word form, word ending);
 static u32 warnings_bodies_provides(u32 function, word ending);
 static u32 warnings_bodies_look_at_called(word warnings, u64 alloc, word form, word ending);
 #endif
 
-#if UNITS & 0xa0
+#if UNITS & 0xc0
 INTERNAL u32 warnings_findings_Findings_add(word self, word warning);
+INTERNAL u32 warnings_findings_count(word counts, word warning);
 #endif
 
-#if UNITS & 0x20
-static u32 warnings_findings_count(word counts, word warning);
+#if UNITS & 0x40
 static INLINE u32 warnings_inside_stands_so(u32 joined, word text, u64 text_len, word items, u64 items_len);
 static u32 warnings_misspelled_look_at_names(word warnings, u64 alloc, u64 input, u64 input_len);
 static void warnings_names_suspicion_of_name(word result, word name, u64 name_len);
 static INLINE u32 warnings_names_is_written(word name, u64 name_len, word input, u64 input_len);
 #endif
 
-#if UNITS & 0x40
+#if UNITS & 0x20
 static INLINE u32 warnings_names_is_called_alone(word name, u64 name_len, word input, u64 input_len);
 #endif
 
-#if UNITS & 0x20
+#if UNITS & 0x40
 static u32 warnings_operands_look_at_numbers(word a1, u64 a2, word a3, word a4);
 static void warnings_operands_operand_among(word result, word machine, word cells, u64 cells_len);
-#endif
-
-#if UNITS & 0x60
-INTERNAL u32 warnings_operands_look_at_both(word a1, u64 a2, word a3);
-#endif
-
-#if UNITS & 0x20
+static u32 warnings_operands_look_at_both(word a1, u64 a2, word a3);
 static u32 warnings_operands_parts_number(word arguments, u64 arguments_len);
 static u32 warnings_performed_look_at_call(word warnings, u64 alloc, word machine, word ending);
 static void warnings_performed_suspicion_of_call(word result, word machine, word name, u64 name_len);
@@ -1169,7 +1164,7 @@ static u32 warnings_performed_look_at_missing(word warnings, u64 alloc, word mac
 INTERNAL u32 warnings_performed_warn(word warnings, u64 alloc, u32 suspicion, word origin, word cells, u64 cells_len);
 #endif
 
-#if UNITS & 0x20
+#if UNITS & 0x40
 static u32 warnings_performed_warn_of(word a1, word a2, word a3);
 #endif
 
@@ -1177,7 +1172,7 @@ static u32 warnings_performed_warn_of(word a1, word a2, word a3);
 INTERNAL void warnings_performed_characters_of(word result, u64 alloc, word cells, u64 cells_len);
 #endif
 
-#if UNITS & 0x20
+#if UNITS & 0x40
 static u32 warnings_printed_look_at_printed(word a1, u64 a2, word a3);
 static u32 warnings_printed_look_at_new_meta(word a1, u64 a2, word a3);
 static u32 warnings_segmented_look_at_texts(word warnings, u64 alloc, word items, u64 items_len, word ending);
@@ -1185,24 +1180,25 @@ static u32 warnings_segmented_look_for_texts(word warnings, u64 alloc, word name
     items_len, word ending);
 #endif
 
-#if UNITS & 0xa0
+#if UNITS & 0xc0
 INTERNAL u32 warnings_watch_Watch_warn_of_rule(word self, word before, word origin, word active, u64 active_len, u64
     neutral);
 INTERNAL u32 warnings_watch_Watch_look_at_end_of_call(word self, u64 before, word machine, u64 input, u64 input_len);
 #endif
 
-#if UNITS & 0x20
+#if UNITS & 0x40
 static u32 warnings_watch_Watch_look_at_call(word self, word machine, word mark, u64 input, u64 input_len);
 static u32 warnings_watch_Watch_warn_of_protection(word self, word before, word origin);
 static u32 warnings_watch_Watch_warn_of_call(word self, word before, u64 active, u64 neutral);
+static u32 warnings_watch_Watch_warn_of_result(word self, word function, word before, u64 active, u64 neutral);
 static u32 warnings_watch_Watch_close_call(word self);
 #endif
 
-#if UNITS & 0xa0
+#if UNITS & 0xc0
 INTERNAL u32 warnings_watch_Watch_warn_of_ends(word self, u32 rule, u64 active, word here);
 #endif
 
-#if UNITS & 0x20
+#if UNITS & 0x40
 static u32 warnings_watch_Watch_warn_of_fault(u64 self, word warnings, word input, u64 input_len);
 static void warnings_watch_Watch_origin_of_form(word result, word self, word machine, word begin);
 #endif
@@ -1211,24 +1207,20 @@ static void warnings_watch_Watch_origin_of_form(word result, word self, word mac
 static void warnings_watch_Watch_origin_of_argument(word result, word self, word value, u64 value_len);
 #endif
 
-#if UNITS & 0x20
+#if UNITS & 0x40
+static u32 warnings_watch_Watch_keep_form(word a1, u32 a2, u32 a3);
 static u32 warnings_watch_Watch_define(word self, word name);
 static u32 warnings_watch_Watch_count_call(word self, word name);
 #endif
 
-#if UNITS & 0xa0
+#if UNITS & 0xc0
+INTERNAL void warnings_watch_Watch_follow_row(word result, word self, word machine, u64 most);
 INTERNAL u32 warnings_watch_Watch_warn_of_read(word a1, word a2, u64 a3, u64 a4, word a5, u64 a6);
-#endif
-
-#if UNITS & 0x80
-static u32 warnings_watch_Watch_move_on(word self, word before, word machine, word value);
-#endif
-
-#if UNITS & 0xa0
+INTERNAL u32 warnings_watch_Watch_move_on(word self, word before, word machine, word value);
 INTERNAL u32 warnings_written_look_at_script(word warnings, u64 alloc, u64 input, u64 input_len);
 #endif
 
-#if UNITS & 0x20
+#if UNITS & 0x40
 static u32 warnings_written_look_at_lines(word warnings, u64 alloc, word input, u64 input_len);
 static u32 warnings_written_look_at_spelling(word warnings, u64 alloc, u64 input, u64 input_len);
 static void warnings_written_look_at_mark(word result, word warnings, u64 alloc, u64 place, u64 text, u64 text_len, u32
@@ -1236,11 +1228,17 @@ static void warnings_written_look_at_mark(word result, word warnings, u64 alloc,
 static u32 warnings_written_warn_at(word warnings, u64 alloc, u32 suspicion, u64 place, u64 bytes, word bytes_len);
 #endif
 
-#if UNITS & 0x40
+#if UNITS & 0x20
 static u32 views_calls_push_call(word line, u64 alloc, word called, u32 width);
 static u32 views_calls_push_results(word line, u64 alloc, word called, u32 width);
-static u32 views_deleted_push_deleted(word line, u64 alloc, u32 touched, word arguments, u64 arguments_len, word
+#endif
+
+#if UNITS & 0x60
+INTERNAL u32 views_deleted_push_deleted(word line, u64 alloc, u32 touched, word arguments, u64 arguments_len, word
     machine, u32 width);
+#endif
+
+#if UNITS & 0x20
 static u32 views_escapes_push_cut(word line, word bytes, u64 bytes_len, u32 width);
 static u32 views_escapes_push_text(word line, word bytes, u64 bytes_len);
 static u32 views_escapes_left_at(u32 left, word bytes, u64 bytes_len);
@@ -1261,7 +1259,13 @@ static u32 views_lines_push_string(word line, word cells, u64 cells_len, u32 wid
 static u32 views_lines_push_cells(word line, word cells, u64 cells_len);
 static u32 views_lines_push_byte(word line, u32 byte);
 static void tracer_oddities_oddity_of(word a1, word a2, word a3, u64 a4, word a5, u64 a6, u32 a7, u32 a8);
-static u32 tracer_shown_Shown_look_at_call(word self, word machine, word call);
+#endif
+
+#if UNITS & 0x60
+INTERNAL u32 tracer_shown_Shown_look_at_call(word self, word machine, word call);
+#endif
+
+#if UNITS & 0x20
 static u32 tracer_shown_Shown_add_lines(word self, word before, word machine, u32 fate, u32 need, u64 printed, u64
     printed_len);
 static u32 tracer_shown_Shown_add_step(word self, word before, word machine, u32 need);
@@ -1270,26 +1274,27 @@ static u32 tracer_shown_Shown_add_call(word self, word before, word machine, u64
 static u32 tracer_shown_Shown_add_forms(word self, word machine);
 #endif
 
-#if UNITS & 0xc0
+#if UNITS & 0xa0
 INTERNAL void checker_run_watched(word result, u64 alloc, u64 block, u64 block_len, u64 steps, u64 input, u64 input_len,
     word source);
 #endif
 
 #if UNITS & 0x80
+static u32 checker_run_pass_row(word machine, word watch, u64 steps);
 static void checker_run_of_script(word result, u64 alloc, u64 input, u64 input_len);
 #endif
 
-#if UNITS & 0xa0
+#if UNITS & 0xc0
 INTERNAL u32 checker_run_add_fault(word findings, u64 alloc, u64 watch, u32 fate, word input, u64 input_len);
 INTERNAL u32 checker_run_add_names(word findings, u64 alloc, u64 input, u64 input_len);
 #endif
 
-#if UNITS & 0x40
+#if UNITS & 0x20
 static u32 checker_run_WatchedRun_push_warnings(u64 a1, word a2, word a3, u64 a4);
 static u32 checker_run_WatchedRun_push_line(word a1, word a2, word a3, u64 a4, u64 a5, u64 a6);
 #endif
 
-#if UNITS & 0x6
+#if UNITS & 0xa
 INTERNAL u32 engine_define(word machine, u64 name, u64 name_len, u64 codes, u64 codes_len, u64 pointer);
 INTERNAL u32 engine_define_text(word machine, u64 name, u64 name_len, u64 body, u64 body_len);
 INTERNAL u32 engine_delete(word machine, u64 name, u64 name_len);
@@ -1301,16 +1306,16 @@ static INLINE u32 engine_set_meta(word machine, u32 byte);
 static INLINE u64 engine_find_form(word machine, u64 name, u64 name_len);
 #endif
 
-#if UNITS & 0x60
-INTERNAL void engine_check(word result, u64 block, u64 cells, u64 steps, u64 script, u64 script_len, u64 memory, u64
+#if UNITS & 0x20
+static void engine_check(word result, u64 block, u64 cells, u64 steps, u64 script, u64 script_len, u64 memory, u64
     units, u64 to, u64 to_len);
 #endif
 
-#if UNITS & 0x15
+#if UNITS & 0x7
 INTERNAL u32 c_devices_OverflowSinkSink_put_all(word self, word text);
 #endif
 
-#if UNITS & 0x19
+#if UNITS & 0x17
 static INLINE u64 c_filling_put_characters(word text, u64 place, word room_, u64 room_len);
 #endif
 
@@ -1319,12 +1324,15 @@ static u64 c_forms_lay_string(word machine, u64 from, word room_, u64 room_len);
 static u64 c_forms_lay_named(word machine, u64 from, u64 room_, u64 room_len);
 #endif
 
-#if UNITS & 0x14
+#if UNITS & 0x6
 INTERNAL u64 c_forms_lay_shown(word form, u64 from, u64 room_, u64 room_len);
 #endif
 
+#if UNITS & 0x2
+static u64 engine_function_count(void);
+#endif
+
 #if UNITS & 0x12
-INTERNAL u64 engine_function_count(void);
 INTERNAL u32 engine_function_fact(u64 k, u32 which);
 INTERNAL u64 engine_function_text(u64 k, u32 which, u64 to, u64 to_len);
 #endif
@@ -1337,17 +1345,14 @@ static INLINE void engine_stop_at_unknown(word machine, u32 stops);
 INTERNAL void engine_answer(word result, word machine, u64 value, u64 value_len, u32 how);
 #endif
 
-#if UNITS & 0x2
-static u64 engine_save(word machine, u64 to, u64 to_len);
-#endif
-
 #if UNITS & 0x12
-INTERNAL u32 engine_load(word machine, u64 image, u64 image_len);
-INTERNAL u64 engine_machine_size(void);
-INTERNAL u64 engine_cell_size(void);
+INTERNAL u64 engine_save(word machine, u64 to, u64 to_len);
 #endif
 
 #if UNITS & 0x2
+static u32 engine_load(word machine, u64 image, u64 image_len);
+static u64 engine_machine_size(void);
+static u64 engine_cell_size(void);
 static INLINE u32 engine_open(word machine, u64 block, u64 cells, u64 steps);
 #endif
 
@@ -1359,21 +1364,27 @@ INTERNAL void engine_turn(word result, word machine, u64 input, u64 input_len, u
 #if UNITS & 0x2
 static INLINE void engine_again(word machine, u64 steps);
 static INLINE u32 engine_take_peak(word machine);
-static void engine_turn_to_form(word machine, u64 k);
+#endif
+
+#if UNITS & 0xa
+INTERNAL void engine_turn_to_form(word machine, u64 k);
+#endif
+
+#if UNITS & 0x6
+INTERNAL void engine_skip_print(word result, word machine);
 #endif
 
 #if UNITS & 0x12
-INTERNAL void engine_skip_print(word result, word machine);
 INTERNAL void engine_run(word result, u64 block, u64 cells, u64 steps, u64 script, u64 script_len, u64 output, u64
     output_len);
 #endif
 
-#if UNITS & 0x60
-INTERNAL void engine_trace_step(word result, word machine, word trace, u64 input, u64 input_len, u64 output, u64
+#if UNITS & 0x20
+static void engine_trace_step(word result, word machine, word trace, u64 input, u64 input_len, u64 output, u64
     output_len, u32 ended, u64 memory, u64 units, u64 lines, u64 lines_len);
 #endif
 
-#if UNITS & 0x45
+#if UNITS & 0x25
 INTERNAL void c_turn_take_turn(word result, word machine, u64 input, u64 input_len, u64 output, u64 output_len, u32
     ended, u64 most);
 #endif
@@ -1381,15 +1392,9 @@ INTERNAL void c_turn_take_turn(word result, word machine, u64 input, u64 input_l
 #if UNITS & 0x2
 static INLINE u64 engine_form_count(word machine);
 static u64 engine_form_name(word machine, u64 k, u64 to, u64 to_len);
-#endif
-
-#if UNITS & 0x12
-INTERNAL u64 engine_form_text(word machine, u64 k, u64 to, u64 to_len);
-INTERNAL u64 engine_form_codes(word machine, u64 k, u64 to, u64 to_len);
-INTERNAL u64 engine_form_pointer(word machine, u64 k);
-#endif
-
-#if UNITS & 0x2
+static u64 engine_form_text(word machine, u64 k, u64 to, u64 to_len);
+static u64 engine_form_codes(word machine, u64 k, u64 to, u64 to_len);
+static u64 engine_form_pointer(word machine, u64 k);
 static INLINE u64 engine_neutral_part(word machine, u64 from, u64 to, u64 to_len);
 static INLINE u64 engine_active_part(word machine, u64 from, u64 to, u64 to_len);
 static INLINE u64 engine_calls(word machine, u64 to, u64 to_len);
@@ -1416,7 +1421,7 @@ static INLINE u64 engine_part(word machine, u32 which);
 static INLINE u32 engine_meta(word machine);
 #endif
 
-#if UNITS & 0x12
+#if UNITS & 0x6
 INTERNAL u32 engine_awaits(word machine);
 #endif
 
@@ -1429,7 +1434,7 @@ INTERNAL void engine_run_zeroed(word result, u64 block, u64 cells, u64 steps, u6
     u64 output_len);
 #endif
 
-#if UNITS & 0x17
+#if UNITS & 0xb
 static INLINE void ashlti3(word a1, u64 a2, u64 a3, u32 a4);
 #endif
 
@@ -1441,19 +1446,19 @@ INTERNAL void bumpalo_bump_Bump_alloc_layout_slow(word a1, word a2, u64 a3, word
 INTERNAL void core_alloc_RefAllocator_grow(word a1, word a2, u64 a3, u64 a4, u64 a5, u64 a6);
 #endif
 
-#if UNITS & 0x20
+#if UNITS & 0x40
 static void core_alloc_RefAllocator_grow2(word a1, word a2, u64 a3, u64 a4, u64 a5, u64 a6);
 #endif
 
-#if UNITS & 0x10
+#if UNITS & 0x2
 static u32 core_cmp_slices_groups_equal(word a1, u64 a2, word a3);
 #endif
 
-#if UNITS & 0x40
+#if UNITS & 0x20
 static INLINE void core_slice_edits_mirror(word a1, word a2, u64 a3);
 #endif
 
-#if UNITS & 0xc0
+#if UNITS & 0xa0
 static INLINE void core_slice_edits_mirror2(word a1, word a2, u64 a3);
 #endif
 
@@ -1461,93 +1466,90 @@ static INLINE void core_slice_edits_mirror2(word a1, word a2, u64 a3);
 static INLINE void core_slice_edits_mirror3(word a1, word a2, u64 a3);
 #endif
 
-#if UNITS & 0x27
+#if UNITS & 0x55
 INTERNAL u32 core_slice_reads_slice_T_contains(word a1, u64 a2, word a3);
 #endif
 
-#if UNITS & 0x10
+#if UNITS & 0x2
 static void image_body_ImageBody_of(word a1, u64 a2, u64 a3);
 #endif
 
-#if UNITS & 0x5
+#if UNITS & 0x9
 static INLINE void itoa_Buffer_format(word a1, u64 a2, u64 a3);
+static void itoa_Buffer_format2(word a1, u64 a2, u64 a3, u64 a4);
 #endif
 
-#if UNITS & 0x15
-INTERNAL void itoa_Buffer_format2(word a1, u64 a2, u64 a3, u64 a4);
-#endif
-
-#if UNITS & 0xd5
+#if UNITS & 0xbb
 static INLINE u64 itoa_integer_write_unsigned(u64 a1, word a2);
 #endif
 
-#if UNITS & 0x17
+#if UNITS & 0xb
 static INLINE void lshrti3(word a1, u64 a2, u64 a3, u32 a4);
 static INLINE void multi3(word a1, u64 a2, u64 a3, u64 a4, u64 a5);
 #endif
 
-#if UNITS & 0x10
+#if UNITS & 0x2
 static INLINE void rattle_export_trac_engine_cell_size(void);
 #endif
 
-#if UNITS & 0x20
-static INLINE u32 std_alloc_compared_VecOrd_cmp(word a1, word a2);
-#endif
-
 #if UNITS & 0x80
+static INLINE u32 std_alloc_compared_VecOrd_cmp(word a1, word a2);
 static INLINE void std_alloc_vec_Vec_drop(word a1);
 static INLINE void std_alloc_vec_Vec_drop2(word a1);
 static INLINE void std_alloc_vec_Vec_drop3(word a1);
-static u32 std_alloc_vec_Vec_grow_amortized(word a1);
 #endif
 
-#if UNITS & 0xa0
-INTERNAL u32 std_alloc_vec_Vec_grow_amortized2(word a1);
+#if UNITS & 0xc0
+INTERNAL u32 std_alloc_vec_Vec_grow_amortized(word a1);
 #endif
 
 #if UNITS & 0x60
-INTERNAL u32 std_alloc_vec_Vec_grow_amortized3(word a1);
-INTERNAL u32 std_alloc_vec_Vec_grow_amortized4(word a1, u64 a2);
-INTERNAL u32 std_alloc_vec_Vec_grow_amortized5(word a1, u64 a2);
+INTERNAL u32 std_alloc_vec_Vec_grow_amortized2(word a1);
+INTERNAL u32 std_alloc_vec_Vec_grow_amortized3(word a1, u64 a2);
 #endif
 
-#if UNITS & 0x20
+#if UNITS & 0x40
+static u32 std_alloc_vec_Vec_grow_amortized4(word a1);
+static u32 std_alloc_vec_Vec_grow_amortized5(word a1, u64 a2);
 static u32 std_alloc_vec_Vec_grow_amortized6(word a1);
 static u32 std_alloc_vec_Vec_grow_amortized7(word a1);
 #endif
 
-#if UNITS & 0xe0
+#if UNITS & 0xa0
 static INLINE void std_alloc_vec_Vec_remove(word a1, word a2, word a3);
+#endif
+
+#if UNITS & 0xe0
 INTERNAL void std_alloc_vec_Vec_remove2(word a1, word a2, word a3);
 #endif
 
-#if UNITS & 0x20
+#if UNITS & 0x40
 static void std_alloc_vec_Vec_with_capacity(word a1, u64 a2, u64 a3);
 #endif
 
-#if UNITS & 0xa0
+#if UNITS & 0xc0
 static INLINE void std_alloc_vec_deque_VecDeque_drop(word a1);
 #endif
 
-#if UNITS & 0x20
+#if UNITS & 0x40
 static void std_alloc_vec_lodged_Vec_T_Lodged_insert_reserved(word a1, word a2, word a3);
+#endif
+
+#if UNITS & 0x80
 static INLINE void std_alloc_vec_lodged_Vec_T_Lodged_insert_reserved2(word a1, word a2, word a3);
 static INLINE void std_alloc_vec_lodged_Vec_T_Lodged_insert_reserved3(word a1, word a2, u64 a3);
 #endif
 
-#if UNITS & 0xa0
-INTERNAL void std_alloc_vec_lodged_Vec_T_Lodged_insert_reserved4(word a1, word a2, word a3);
-#endif
-
-#if UNITS & 0x20
+#if UNITS & 0x40
+static void std_alloc_vec_lodged_Vec_T_Lodged_insert_reserved4(word a1, word a2, word a3);
 static INLINE void std_collections_btree_iter_Cursor_advance(word a1, u64 a2, u64 a3, u64 a4, u64 a5);
 #endif
 
-#if UNITS & 0x40
+#if UNITS & 0x20
 static INLINE void std_collections_btree_iter_Cursor_advance_i64(word a1, u64 a2, u64 a3, u64 a4, u64 a5);
 #endif
 
-#if UNITS & 0x20
+#if UNITS & 0x40
 static void std_collections_btree_map_BTreeMap_get(word a1, word a2, word a3);
 static void std_collections_btree_map_BTreeMap_insert(word a1, word a2, word a3, word a4);
 #endif
@@ -1558,19 +1560,25 @@ static void std_collections_btree_node_Node_destroy2(u64 a1, word a2);
 static void std_collections_btree_node_Node_destroy3(u64 a1, word a2);
 #endif
 
-#if UNITS & 0x40
+#if UNITS & 0x20
 static void std_collections_btree_node_Node_destroy4(u64 a1, word a2);
 static void std_collections_btree_node_Node_destroy5(u64 a1, word a2);
 static void std_collections_btree_node_Node_destroy6(u64 a1, word a2);
 #endif
 
-#if UNITS & 0x20
+#if UNITS & 0x40
 static void std_collections_btree_node_parts_Parts_new(word a1, word a2, u64 a3);
-static void std_collections_btree_node_parts_Parts_new2(word a1, word a2, u64 a3);
-static void std_collections_btree_node_parts_Parts_new3(word a1, word a2, u64 a3);
 #endif
 
 #if UNITS & 0xc0
+INTERNAL void std_collections_btree_node_parts_Parts_new2(word a1, word a2, u64 a3);
+#endif
+
+#if UNITS & 0x40
+static void std_collections_btree_node_parts_Parts_new3(word a1, word a2, u64 a3);
+#endif
+
+#if UNITS & 0xa0
 INTERNAL void std_collections_btree_row_Row_reverse(word a1);
 INTERNAL void std_collections_btree_row_Row_reverse2(word a1);
 INTERNAL void std_collections_btree_row_Row_reverse_i64(word a1);
@@ -2175,7 +2183,7 @@ L147:;
 }
 #endif
 
-#if UNITS & 0x20
+#if UNITS & 0x40
 
 /* What holds for every call of a function, as its row says. */
 INTERNAL void language_table_traits_of(word result, u32 function) {
@@ -2203,13 +2211,33 @@ INTERNAL void language_table_traits_of(word result, u32 function) {
     u32 n224;
     u32 n225;
     switch ((u32)((word)function & 255u) - 2u) {
+    case 22:
+        break;
     default:
     {
         n93 = 0u;
         store8(frame + 10u, 0u);
         store16(frame + 8u, 0u);
         n219 = 1u;
-        goto L139;
+        n222 = 0u;
+        n92 = n222;
+        n216 = 1u;
+        store8(result + 24u, n93);
+        store8(result + 23u, n221);
+        store8(result + 22u, n220);
+        store8(result + 21u, n219);
+        store8(result + 20u, n92);
+        store32(result + 16u, n64);
+        store32(result + 12u, n218);
+        store8(result + 11u, n65);
+        store8(result + 10u, n217);
+        store8(result + 9u, n91);
+        store8(result + 8u, n63);
+        store32(result + 4u, n62);
+        store32(result, n216);
+        store16(result + 25u, load16(frame + 8u));
+        store8(result + 27u, load8(frame + 10u));
+        return;
     }
     case 0:
     {
@@ -2217,7 +2245,26 @@ INTERNAL void language_table_traits_of(word result, u32 function) {
         store8(frame + 10u, 0u);
         store16(frame + 8u, 0u);
         n221 = 1u;
-        goto L606;
+        n223 = 0u;
+        n91 = n223;
+        n62 = 1u;
+        n216 = 1u;
+        store8(result + 24u, n93);
+        store8(result + 23u, n221);
+        store8(result + 22u, n220);
+        store8(result + 21u, n219);
+        store8(result + 20u, n92);
+        store32(result + 16u, n64);
+        store32(result + 12u, n218);
+        store8(result + 11u, n65);
+        store8(result + 10u, n217);
+        store8(result + 9u, n91);
+        store8(result + 8u, n63);
+        store32(result + 4u, n62);
+        store32(result, n216);
+        store16(result + 25u, load16(frame + 8u));
+        store8(result + 27u, load8(frame + 10u));
+        return;
     }
     case 1:
     {
@@ -2225,14 +2272,51 @@ INTERNAL void language_table_traits_of(word result, u32 function) {
         store8(frame + 10u, 0u);
         store16(frame + 8u, 0u);
         n220 = 1u;
-        goto L606;
+        n223 = 0u;
+        n91 = n223;
+        n62 = 1u;
+        n216 = 1u;
+        store8(result + 24u, n93);
+        store8(result + 23u, n221);
+        store8(result + 22u, n220);
+        store8(result + 21u, n219);
+        store8(result + 20u, n92);
+        store32(result + 16u, n64);
+        store32(result + 12u, n218);
+        store8(result + 11u, n65);
+        store8(result + 10u, n217);
+        store8(result + 9u, n91);
+        store8(result + 8u, n63);
+        store32(result + 4u, n62);
+        store32(result, n216);
+        store16(result + 25u, load16(frame + 8u));
+        store8(result + 27u, load8(frame + 10u));
+        return;
     }
     case 2:
     {
         store8(frame + 10u, 0u);
         store16(frame + 8u, 0u);
         n93 = 1u;
-        goto L139;
+        n222 = 0u;
+        n92 = n222;
+        n216 = 1u;
+        store8(result + 24u, n93);
+        store8(result + 23u, n221);
+        store8(result + 22u, n220);
+        store8(result + 21u, n219);
+        store8(result + 20u, n92);
+        store32(result + 16u, n64);
+        store32(result + 12u, n218);
+        store8(result + 11u, n65);
+        store8(result + 10u, n217);
+        store8(result + 9u, n91);
+        store8(result + 8u, n63);
+        store32(result + 4u, n62);
+        store32(result, n216);
+        store16(result + 25u, load16(frame + 8u));
+        store8(result + 27u, load8(frame + 10u));
+        return;
     }
     case 3:
     {
@@ -2243,7 +2327,22 @@ INTERNAL void language_table_traits_of(word result, u32 function) {
         n62 = 2u;
         n63 = 1u;
         n216 = 1u;
-        break;
+        store8(result + 24u, n93);
+        store8(result + 23u, n221);
+        store8(result + 22u, n220);
+        store8(result + 21u, n219);
+        store8(result + 20u, n92);
+        store32(result + 16u, n64);
+        store32(result + 12u, n218);
+        store8(result + 11u, n65);
+        store8(result + 10u, n217);
+        store8(result + 9u, n91);
+        store8(result + 8u, n63);
+        store32(result + 4u, n62);
+        store32(result, n216);
+        store16(result + 25u, load16(frame + 8u));
+        store8(result + 27u, load8(frame + 10u));
+        return;
     }
     case 4:
     {
@@ -2251,7 +2350,25 @@ INTERNAL void language_table_traits_of(word result, u32 function) {
         store8(frame + 10u, 0u);
         store16(frame + 8u, 0u);
         n217 = 1u;
-        goto L548;
+        n63 = 1u;
+        n224 = 1u;
+        n91 = n224;
+        store8(result + 24u, n93);
+        store8(result + 23u, n221);
+        store8(result + 22u, n220);
+        store8(result + 21u, n219);
+        store8(result + 20u, n92);
+        store32(result + 16u, n64);
+        store32(result + 12u, n218);
+        store8(result + 11u, n65);
+        store8(result + 10u, n217);
+        store8(result + 9u, n91);
+        store8(result + 8u, n63);
+        store32(result + 4u, n62);
+        store32(result, n216);
+        store16(result + 25u, load16(frame + 8u));
+        store8(result + 27u, load8(frame + 10u));
+        return;
     }
     case 5:
     {
@@ -2260,8 +2377,24 @@ INTERNAL void language_table_traits_of(word result, u32 function) {
         store16(frame + 8u, 0u);
         n63 = 2u;
         n217 = 1u;
-        n222 = 0u;
-        goto L555;
+        n224 = 0u;
+        n91 = n224;
+        store8(result + 24u, n93);
+        store8(result + 23u, n221);
+        store8(result + 22u, n220);
+        store8(result + 21u, n219);
+        store8(result + 20u, n92);
+        store32(result + 16u, n64);
+        store32(result + 12u, n218);
+        store8(result + 11u, n65);
+        store8(result + 10u, n217);
+        store8(result + 9u, n91);
+        store8(result + 8u, n63);
+        store32(result + 4u, n62);
+        store32(result, n216);
+        store16(result + 25u, load16(frame + 8u));
+        store8(result + 27u, load8(frame + 10u));
+        return;
     }
     case 6:
     {
@@ -2270,8 +2403,25 @@ INTERNAL void language_table_traits_of(word result, u32 function) {
         store16(frame + 8u, 0u);
         n217 = 1u;
         n63 = 3u;
-        n223 = 0u;
-        goto L21;
+        n222 = 0u;
+        n92 = n222;
+        n216 = 1u;
+        store8(result + 24u, n93);
+        store8(result + 23u, n221);
+        store8(result + 22u, n220);
+        store8(result + 21u, n219);
+        store8(result + 20u, n92);
+        store32(result + 16u, n64);
+        store32(result + 12u, n218);
+        store8(result + 11u, n65);
+        store8(result + 10u, n217);
+        store8(result + 9u, n91);
+        store8(result + 8u, n63);
+        store32(result + 4u, n62);
+        store32(result, n216);
+        store16(result + 25u, load16(frame + 8u));
+        store8(result + 27u, load8(frame + 10u));
+        return;
     }
     case 7:
     {
@@ -2281,7 +2431,22 @@ INTERNAL void language_table_traits_of(word result, u32 function) {
         n62 = 1u;
         n63 = 3u;
         n216 = 1u;
-        break;
+        store8(result + 24u, n93);
+        store8(result + 23u, n221);
+        store8(result + 22u, n220);
+        store8(result + 21u, n219);
+        store8(result + 20u, n92);
+        store32(result + 16u, n64);
+        store32(result + 12u, n218);
+        store8(result + 11u, n65);
+        store8(result + 10u, n217);
+        store8(result + 9u, n91);
+        store8(result + 8u, n63);
+        store32(result + 4u, n62);
+        store32(result, n216);
+        store16(result + 25u, load16(frame + 8u));
+        store8(result + 27u, load8(frame + 10u));
+        return;
     }
     case 8:
     {
@@ -2289,7 +2454,27 @@ INTERNAL void language_table_traits_of(word result, u32 function) {
         store8(frame + 10u, 0u);
         store16(frame + 8u, 0u);
         n220 = 1u;
-        goto L296;
+        n63 = 1u;
+        n223 = 1u;
+        n91 = n223;
+        n62 = 1u;
+        n216 = 1u;
+        store8(result + 24u, n93);
+        store8(result + 23u, n221);
+        store8(result + 22u, n220);
+        store8(result + 21u, n219);
+        store8(result + 20u, n92);
+        store32(result + 16u, n64);
+        store32(result + 12u, n218);
+        store8(result + 11u, n65);
+        store8(result + 10u, n217);
+        store8(result + 9u, n91);
+        store8(result + 8u, n63);
+        store32(result + 4u, n62);
+        store32(result, n216);
+        store16(result + 25u, load16(frame + 8u));
+        store8(result + 27u, load8(frame + 10u));
+        return;
     }
     case 9:
     {
@@ -2297,7 +2482,25 @@ INTERNAL void language_table_traits_of(word result, u32 function) {
         store8(frame + 10u, 0u);
         store16(frame + 8u, 0u);
         n65 = 1u;
-        goto L548;
+        n63 = 1u;
+        n224 = 1u;
+        n91 = n224;
+        store8(result + 24u, n93);
+        store8(result + 23u, n221);
+        store8(result + 22u, n220);
+        store8(result + 21u, n219);
+        store8(result + 20u, n92);
+        store32(result + 16u, n64);
+        store32(result + 12u, n218);
+        store8(result + 11u, n65);
+        store8(result + 10u, n217);
+        store8(result + 9u, n91);
+        store8(result + 8u, n63);
+        store32(result + 4u, n62);
+        store32(result, n216);
+        store16(result + 25u, load16(frame + 8u));
+        store8(result + 27u, load8(frame + 10u));
+        return;
     }
     case 10:
     case 11:
@@ -2313,7 +2516,22 @@ INTERNAL void language_table_traits_of(word result, u32 function) {
         n63 = 1u;
         n62 = 2u;
         n216 = 1u;
-        break;
+        store8(result + 24u, n93);
+        store8(result + 23u, n221);
+        store8(result + 22u, n220);
+        store8(result + 21u, n219);
+        store8(result + 20u, n92);
+        store32(result + 16u, n64);
+        store32(result + 12u, n218);
+        store8(result + 11u, n65);
+        store8(result + 10u, n217);
+        store8(result + 9u, n91);
+        store8(result + 8u, n63);
+        store32(result + 4u, n62);
+        store32(result, n216);
+        store16(result + 25u, load16(frame + 8u));
+        store8(result + 27u, load8(frame + 10u));
+        return;
     }
     case 12:
     case 13:
@@ -2327,7 +2545,24 @@ INTERNAL void language_table_traits_of(word result, u32 function) {
         n217 = 1u;
         n91 = 1u;
         n63 = 1u;
-        goto L772;
+        n62 = 3u;
+        n216 = 1u;
+        store8(result + 24u, n93);
+        store8(result + 23u, n221);
+        store8(result + 22u, n220);
+        store8(result + 21u, n219);
+        store8(result + 20u, n92);
+        store32(result + 16u, n64);
+        store32(result + 12u, n218);
+        store8(result + 11u, n65);
+        store8(result + 10u, n217);
+        store8(result + 9u, n91);
+        store8(result + 8u, n63);
+        store32(result + 4u, n62);
+        store32(result, n216);
+        store16(result + 25u, load16(frame + 8u));
+        store8(result + 27u, load8(frame + 10u));
+        return;
     }
     case 14:
     {
@@ -2335,7 +2570,27 @@ INTERNAL void language_table_traits_of(word result, u32 function) {
         store8(frame + 10u, 0u);
         store16(frame + 8u, 0u);
         n217 = 1u;
-        goto L296;
+        n63 = 1u;
+        n223 = 1u;
+        n91 = n223;
+        n62 = 1u;
+        n216 = 1u;
+        store8(result + 24u, n93);
+        store8(result + 23u, n221);
+        store8(result + 22u, n220);
+        store8(result + 21u, n219);
+        store8(result + 20u, n92);
+        store32(result + 16u, n64);
+        store32(result + 12u, n218);
+        store8(result + 11u, n65);
+        store8(result + 10u, n217);
+        store8(result + 9u, n91);
+        store8(result + 8u, n63);
+        store32(result + 4u, n62);
+        store32(result, n216);
+        store16(result + 25u, load16(frame + 8u));
+        store8(result + 27u, load8(frame + 10u));
+        return;
     }
     case 15:
     case 16:
@@ -2345,7 +2600,23 @@ INTERNAL void language_table_traits_of(word result, u32 function) {
         store16(frame + 8u, 0u);
         n92 = 1u;
         n62 = 4u;
-        goto L583;
+        n216 = 1u;
+        store8(result + 24u, n93);
+        store8(result + 23u, n221);
+        store8(result + 22u, n220);
+        store8(result + 21u, n219);
+        store8(result + 20u, n92);
+        store32(result + 16u, n64);
+        store32(result + 12u, n218);
+        store8(result + 11u, n65);
+        store8(result + 10u, n217);
+        store8(result + 9u, n91);
+        store8(result + 8u, n63);
+        store32(result + 4u, n62);
+        store32(result, n216);
+        store16(result + 25u, load16(frame + 8u));
+        store8(result + 27u, load8(frame + 10u));
+        return;
     }
     case 17:
     {
@@ -2356,7 +2627,24 @@ INTERNAL void language_table_traits_of(word result, u32 function) {
         store8(frame + 10u, 0u);
         n218 = 1u;
         n64 = 3u;
-        goto L772;
+        n62 = 3u;
+        n216 = 1u;
+        store8(result + 24u, n93);
+        store8(result + 23u, n221);
+        store8(result + 22u, n220);
+        store8(result + 21u, n219);
+        store8(result + 20u, n92);
+        store32(result + 16u, n64);
+        store32(result + 12u, n218);
+        store8(result + 11u, n65);
+        store8(result + 10u, n217);
+        store8(result + 9u, n91);
+        store8(result + 8u, n63);
+        store32(result + 4u, n62);
+        store32(result, n216);
+        store16(result + 25u, load16(frame + 8u));
+        store8(result + 27u, load8(frame + 10u));
+        return;
     }
     case 20:
     {
@@ -2364,7 +2652,23 @@ INTERNAL void language_table_traits_of(word result, u32 function) {
         store8(frame + 10u, 0u);
         store16(frame + 8u, 0u);
         n62 = 1u;
-        goto L583;
+        n216 = 1u;
+        store8(result + 24u, n93);
+        store8(result + 23u, n221);
+        store8(result + 22u, n220);
+        store8(result + 21u, n219);
+        store8(result + 20u, n92);
+        store32(result + 16u, n64);
+        store32(result + 12u, n218);
+        store8(result + 11u, n65);
+        store8(result + 10u, n217);
+        store8(result + 9u, n91);
+        store8(result + 8u, n63);
+        store32(result + 4u, n62);
+        store32(result, n216);
+        store16(result + 25u, load16(frame + 8u));
+        store8(result + 27u, load8(frame + 10u));
+        return;
     }
     case 18:
     case 19:
@@ -2374,71 +2678,32 @@ INTERNAL void language_table_traits_of(word result, u32 function) {
         store16(frame + 8u, 0u);
         n216 = 1u;
         n62 = 2u;
-        n224 = 0u;
-        goto L586;
-    }
-    case 22:
-    {
-        store8(frame + 10u, 0u);
-        store16(frame + 8u, 0u);
-        n216 = 1u;
-        n62 = 2u;
-        n224 = 0u;
-    } /* fall through */
-L586:;
-    {
-        n93 = n224;
-        break;
-    }
-L583:;
-    {
-        n216 = 1u;
-        break;
-    }
-L772:;
-    {
-        n62 = 3u;
-        n216 = 1u;
-        break;
-    }
-L296:;
-    {
-        n63 = 1u;
-        n225 = 1u;
-        goto L25;
-    }
-L548:;
-    {
-        n63 = 1u;
-        n222 = 1u;
-    } /* fall through */
-L555:;
-    {
-        n91 = n222;
-        break;
-    }
-L606:;
-    {
         n225 = 0u;
-    } /* fall through */
-L25:;
-    {
-        n91 = n225;
-        n62 = 1u;
-        n216 = 1u;
-        break;
+        n93 = n225;
+        store8(result + 24u, n93);
+        store8(result + 23u, n221);
+        store8(result + 22u, n220);
+        store8(result + 21u, n219);
+        store8(result + 20u, n92);
+        store32(result + 16u, n64);
+        store32(result + 12u, n218);
+        store8(result + 11u, n65);
+        store8(result + 10u, n217);
+        store8(result + 9u, n91);
+        store8(result + 8u, n63);
+        store32(result + 4u, n62);
+        store32(result, n216);
+        store16(result + 25u, load16(frame + 8u));
+        store8(result + 27u, load8(frame + 10u));
+        return;
     }
-L139:;
-    {
-        n223 = 0u;
-    } /* fall through */
-L21:;
-    {
-        n92 = n223;
-        n216 = 1u;
-        break;
     }
-    }
+    store8(frame + 10u, 0u);
+    store16(frame + 8u, 0u);
+    n216 = 1u;
+    n62 = 2u;
+    n225 = 0u;
+    n93 = n225;
     store8(result + 24u, n93);
     store8(result + 23u, n221);
     store8(result + 22u, n220);
@@ -2459,7 +2724,7 @@ L21:;
 
 /* ---- The crate trac_space ---- */
 
-#if UNITS & 0x5
+#if UNITS & 0x9
 
 /* How many bytes stand before the first `stop`; all of them if there is none. */
 static INLINE u64 space_byte_search_count_before(u32 stop, word text, u64 text_len) {
@@ -2649,9 +2914,6 @@ INTERNAL void space_byte_writing_write_many(word a1, word a2, u64 a3) {
     store32(p808 + 4u, 0u);
     store8(p808 + 1u, n610);
 }
-#endif
-
-#if UNITS & 0x9
 
 /* trac_space::copies::copy_long. */
 INTERNAL void space_copies_copy_long(word a1, word a2, u64 a3, u64 a4) {
@@ -3633,7 +3895,7 @@ static INLINE void space_filling_put_untagged(word cells, u64 cells_len, word st
 }
 #endif
 
-#if UNITS & 0x5
+#if UNITS & 0x9
 
 /* trac_space::space::Space::try_reserve_without_index. */
 INTERNAL u32 space_space_Space_try_reserve_without_index(word self, u64 n) {
@@ -3753,10 +4015,10 @@ INTERNAL u32 space_space_Space_push_over_index(word self, word cell) {
 }
 #endif
 
-#if UNITS & 0x9
+#if UNITS & 0x5
 
 /* Copies the cells of the store from place `a` up to `b` to the end of neutral. */
-INTERNAL u32 space_space_Space_copy_store(word self, u32 a, u32 b) {
+static u32 space_space_Space_copy_store(word self, u32 a, u32 b) {
     const u32 n183 = b - a;
     u32 n511 = load32(self + 16u) + load32(self + 20u);
     u32 n216;
@@ -3839,7 +4101,7 @@ INTERNAL u32 space_space_Space_copy_store(word self, u32 a, u32 b) {
 }
 #endif
 
-#if UNITS & 0x5
+#if UNITS & 0x9
 
 /* Removes the cells of the store from place `a` up to `b`. */
 INTERNAL void space_space_Space_remove_store(word self, u32 a, u32 b) {
@@ -3911,9 +4173,6 @@ INTERNAL void space_space_Space_remove_store(word self, u32 a, u32 b) {
     p784 = self + 16u;
     store32(p784, a - b + load32(p784));
 }
-#endif
-
-#if UNITS & 0x11
 
 /* Copies the cells of neutral from place `a` up to `b` over as many cells of the store, from place `at` on. */
 static void space_space_Space_write_part(word self, u32 at, u32 a, u32 b) {
@@ -3928,89 +4187,116 @@ static void space_space_Space_write_part(word self, u32 at, u32 a, u32 b) {
         return;
     }
     if (n183 >= 17u) {
-        do {
-            const u64 w995 = ((u64)p13 - 9u) >> 3;
-            if (w995 != 0u) {
-                const u64 w485 = w995 + 1u;
-                const word p680 = (word)w485 & 1u;
-                u64 w10 = w485 & 4611686018427387902ull;
-                p68 = (word)w10 << 3;
-                word p892 = (p127 << 3) + p243;
-                word p749 = (p809 << 3) + p243;
-                do {
-                    const u64 w36 = load64(p749);
-                    const u64 w293 = load64(p749 + 8u);
-                    const u64 w14 = load64(p749 + 16u);
-                    const u64 w321 = load64(p749 + 24u);
-                    const u64 w97 = load64(p749 + 32u);
-                    const u64 w720 = load64(p749 + 40u);
-                    const u64 w569 = load64(p749 + 48u);
-                    store64(p892 + 56u, load64(p749 + 56u));
-                    store64(p892 + 48u, w569);
-                    store64(p892 + 40u, w720);
-                    store64(p892 + 32u, w97);
-                    store64(p892 + 24u, w321);
-                    store64(p892 + 16u, w14);
-                    store64(p892 + 8u, w293);
-                    store64(p892, w36);
-                    const u64 w205 = load64(p749 + 64u);
-                    const u64 w179 = load64(p749 + 72u);
-                    const u64 w433 = load64(p749 + 80u);
-                    const u64 w148 = load64(p749 + 88u);
-                    const u64 w63 = load64(p749 + 96u);
-                    const u64 w677 = load64(p749 + 104u);
-                    const u64 w210 = load64(p749 + 112u);
-                    store64(p892 + 120u, load64(p749 + 120u));
-                    store64(p892 + 112u, w210);
-                    store64(p892 + 104u, w677);
-                    store64(p892 + 96u, w63);
-                    store64(p892 + 88u, w148);
-                    store64(p892 + 80u, w433);
-                    store64(p892 + 72u, w179);
-                    store64(p892 + 64u, w205);
-                    p892 = p892 + 128u;
-                    p749 = p749 + 128u;
-                    w10 = w10 - 2u;
-                } while (w10 != 0u);
-                if (p680 == 0u)
-                    break;
+        const u64 w995 = ((u64)p13 - 9u) >> 3;
+        word p305;
+        word p857;
+        u64 w36;
+        u64 w293;
+        u64 w14;
+        u64 w321;
+        u64 w97;
+        u64 w720;
+        u64 w569;
+        word p80;
+        if (w995 != 0u) {
+            const u64 w485 = w995 + 1u;
+            const word p680 = (word)w485 & 1u;
+            u64 w10 = w485 & 4611686018427387902ull;
+            p68 = (word)w10 << 3;
+            word p892 = (p127 << 3) + p243;
+            word p749 = (p809 << 3) + p243;
+            do {
+                const u64 w37 = load64(p749);
+                const u64 w294 = load64(p749 + 8u);
+                const u64 w15 = load64(p749 + 16u);
+                const u64 w322 = load64(p749 + 24u);
+                const u64 w98 = load64(p749 + 32u);
+                const u64 w721 = load64(p749 + 40u);
+                const u64 w570 = load64(p749 + 48u);
+                store64(p892 + 56u, load64(p749 + 56u));
+                store64(p892 + 48u, w570);
+                store64(p892 + 40u, w721);
+                store64(p892 + 32u, w98);
+                store64(p892 + 24u, w322);
+                store64(p892 + 16u, w15);
+                store64(p892 + 8u, w294);
+                store64(p892, w37);
+                const u64 w205 = load64(p749 + 64u);
+                const u64 w179 = load64(p749 + 72u);
+                const u64 w433 = load64(p749 + 80u);
+                const u64 w148 = load64(p749 + 88u);
+                const u64 w63 = load64(p749 + 96u);
+                const u64 w677 = load64(p749 + 104u);
+                const u64 w210 = load64(p749 + 112u);
+                store64(p892 + 120u, load64(p749 + 120u));
+                store64(p892 + 112u, w210);
+                store64(p892 + 104u, w677);
+                store64(p892 + 96u, w63);
+                store64(p892 + 88u, w148);
+                store64(p892 + 80u, w433);
+                store64(p892 + 72u, w179);
+                store64(p892 + 64u, w205);
+                p892 = p892 + 128u;
+                p749 = p749 + 128u;
+                w10 = w10 - 2u;
+            } while (w10 != 0u);
+            if (p680 == 0u) {
+                p305 = p13 - 8u;
+                p857 = ((p809 + p305) << 3) + p243;
+                w36 = load64(p857);
+                w293 = load64(p857 + 8u);
+                w14 = load64(p857 + 16u);
+                w321 = load64(p857 + 24u);
+                w97 = load64(p857 + 32u);
+                w720 = load64(p857 + 40u);
+                w569 = load64(p857 + 48u);
+                p80 = ((p127 + p305) << 3) + p243;
+                store64(p80 + 56u, load64(p857 + 56u));
+                store64(p80 + 48u, w569);
+                store64(p80 + 40u, w720);
+                store64(p80 + 32u, w97);
+                store64(p80 + 24u, w321);
+                store64(p80 + 16u, w14);
+                store64(p80 + 8u, w293);
+                store64(p80, w36);
+                return;
             }
-            const word p857 = ((p809 + p68) << 3) + p243;
-            const u64 w23 = load64(p857);
-            const u64 w748 = load64(p857 + 8u);
-            const u64 w102 = load64(p857 + 16u);
-            const u64 w460 = load64(p857 + 24u);
-            const u64 w421 = load64(p857 + 32u);
-            const u64 w911 = load64(p857 + 40u);
-            const u64 w230 = load64(p857 + 48u);
-            const word p630 = ((p68 + p127) << 3) + p243;
-            store64(p630 + 56u, load64(p857 + 56u));
-            store64(p630 + 48u, w230);
-            store64(p630 + 40u, w911);
-            store64(p630 + 32u, w421);
-            store64(p630 + 24u, w460);
-            store64(p630 + 16u, w102);
-            store64(p630 + 8u, w748);
-            store64(p630, w23);
-        } while (0);
-        const word p305 = p13 - 8u;
-        const word p604 = ((p809 + p305) << 3) + p243;
-        const u64 w386 = load64(p604);
-        const u64 w250 = load64(p604 + 8u);
-        const u64 w123 = load64(p604 + 16u);
-        const u64 w695 = load64(p604 + 24u);
-        const u64 w537 = load64(p604 + 32u);
-        const u64 w88 = load64(p604 + 40u);
-        const u64 w10 = load64(p604 + 48u);
-        const word p704 = ((p127 + p305) << 3) + p243;
-        store64(p704 + 56u, load64(p604 + 56u));
-        store64(p704 + 48u, w10);
-        store64(p704 + 40u, w88);
-        store64(p704 + 32u, w537);
-        store64(p704 + 24u, w695);
-        store64(p704 + 16u, w123);
-        store64(p704 + 8u, w250);
-        store64(p704, w386);
+        }
+        const word p858 = ((p809 + p68) << 3) + p243;
+        const u64 w23 = load64(p858);
+        const u64 w748 = load64(p858 + 8u);
+        const u64 w102 = load64(p858 + 16u);
+        const u64 w460 = load64(p858 + 24u);
+        const u64 w421 = load64(p858 + 32u);
+        const u64 w911 = load64(p858 + 40u);
+        const u64 w230 = load64(p858 + 48u);
+        const word p630 = ((p68 + p127) << 3) + p243;
+        store64(p630 + 56u, load64(p858 + 56u));
+        store64(p630 + 48u, w230);
+        store64(p630 + 40u, w911);
+        store64(p630 + 32u, w421);
+        store64(p630 + 24u, w460);
+        store64(p630 + 16u, w102);
+        store64(p630 + 8u, w748);
+        store64(p630, w23);
+        p305 = p13 - 8u;
+        p857 = ((p809 + p305) << 3) + p243;
+        w36 = load64(p857);
+        w293 = load64(p857 + 8u);
+        w14 = load64(p857 + 16u);
+        w321 = load64(p857 + 24u);
+        w97 = load64(p857 + 32u);
+        w720 = load64(p857 + 40u);
+        w569 = load64(p857 + 48u);
+        p80 = ((p127 + p305) << 3) + p243;
+        store64(p80 + 56u, load64(p857 + 56u));
+        store64(p80 + 48u, w569);
+        store64(p80 + 40u, w720);
+        store64(p80 + 32u, w97);
+        store64(p80 + 24u, w321);
+        store64(p80 + 16u, w14);
+        store64(p80 + 8u, w293);
+        store64(p80, w36);
         return;
     }
     if (n183 >= 8u) {
@@ -4095,7 +4381,7 @@ static void space_space_Space_write_part(word self, u32 at, u32 a, u32 b) {
 
 /* ---- The crate trac_values ---- */
 
-#if UNITS & 0x9
+#if UNITS & 0x5
 
 /* The octal digit at place `k`, from 0 at the left, of the bit string that `digits` gives, shifted by `by` bits, to
  * the left unless `by` is negative; None past its end. */
@@ -4301,7 +4587,7 @@ static INLINE void values_bit_string_rotated_digit(word result, word digits, u64
 }
 #endif
 
-#if UNITS & 0x3
+#if UNITS & 0x11
 
 /* Whether the number at the end of text `a` is greater than the one at the end of text `b`. */
 INTERNAL u32 values_comparing_longer_greater(word a, u64 a_len, word b, u64 b_len) {
@@ -4580,6 +4866,9 @@ static INLINE u32 values_comparing_long_greater(word a, u64 a_len, word b, u64 b
     n216 = (n375 & 255u) == 2u;
     return n216;
 }
+#endif
+
+#if UNITS & 0x3
 
 /* The number at the end of a text, of any length, and where it begins. */
 INTERNAL void values_number_longest_tail(word result, word cells, u64 cells_len) {
@@ -4725,151 +5014,50 @@ INTERNAL void values_number_result_of(word result, u32 operation, word a, word b
     const word frame = (word)room;
     u64 w68 = 0u;
     u64 w69;
+    u64 w265;
+    u64 w718;
+    u64 w899;
     u64 w59;
     u64 w259;
     u32 n216;
-    u64 w352;
-    u64 w729;
-    u64 w769;
-    u64 w304;
-    u64 w55;
-    u64 w636;
-    word p68;
-    do {
-        u64 w265;
-        u64 w718;
-        u64 w899;
+    {
         {
             {
                 {
-                    {
-                        if (load8(a) == 1u) {
-                            if (load8(b) != 1u) {
-                                store64(result + 24u, 0u);
-                                store64(result + 16u, 0u);
-                                store64(result + 8u, 0u);
-                                store64(result, 0u);
-                                return;
-                            }
-                            w69 = load64(b + 24u);
-                            w265 = load64(b + 16u);
-                            w718 = load64(a + 24u);
-                            w899 = load64(a + 16u);
-                            switch ((u32)((word)operation & 255u) - 1u) {
-                            case 0:
-                                goto L504;
-                            case 1:
-                                goto L206;
-                            case 2:
-                                goto L826;
-                            default:
-                                goto L493;
-                            }
-                        }
-                        store64(result + 24u, 0u);
-                        store64(result + 16u, 0u);
-                        store64(result + 8u, 0u);
-                        store64(result, 0u);
-                        return;
-                    }
-                L493:;
-                    w59 = w899 + w265;
-                    const u32 n879 = w899 > w59;
-                    w259 = w69 + w718 + n879;
-                    if ((w259 == w718 ? n879 : ((i64)w259 < (i64)w718)) ^ ((i64)w69 >= 0)) {
-                        n216 = ((w259 ^ 9223372036854775808ull) | w59) != 0u;
-                        w69 = n216 ? w259 : 0u;
-                        w68 = n216 ? w59 : 0u;
-                        store64(result + 8u, 0u);
-                        store64(result + 24u, w69);
-                        store64(result + 16u, w68);
-                        store64(result, n216);
-                        return;
-                    }
-                    w68 = 0u;
-                    n216 = 0u;
-                    w69 = 0u;
-                    store64(result + 8u, 0u);
-                    store64(result + 24u, w69);
-                    store64(result + 16u, w68);
-                    store64(result, n216);
-                    return;
-                }
-            L206:;
-                const u32 n590 = (i64)w718 < 0;
-                const u64 w343 = n590 ? 0u - w899 : w899;
-                const u32 n977 = (i64)w69 < 0;
-                const u64 w781 = n977 ? 0u - w265 : w265;
-                multi3(frame + 32u, w343, 0u, w781, 0u);
-                const u64 w575 = n977 ? 0u - ((u32)(w265 != 0u) + w69) : w69;
-                multi3(frame + 64u, w343, 0u, w575, 0u);
-                const u64 w687 = n590 ? 0u - ((u32)(w899 != 0u) + w718) : w718;
-                multi3(frame + 16u, w687, 0u, w781, 0u);
-                multi3(frame + 48u, w687, 0u, w575, 0u);
-                multi3(frame, w899, w718, w265, w69);
-                n216 = 0u;
-                const word p541 = (word)((w69 ^ w718) >> 63);
-                const u64 w846 = p541 + 9223372036854775807ull;
-                const u64 w903 = load64(frame + 40u);
-                const u64 w186 = load64(frame + 64u) + w903;
-                const u64 w684 = load64(frame + 16u) + w186;
-                if ((w684 == w846 ? ((u64)p541 - 1u < load64(frame + 32u)) : (w684 > w846)) != 0u) {
-                    w69 = 0u;
-                    store64(result + 8u, 0u);
-                    store64(result + 24u, w69);
-                    store64(result + 16u, w68);
-                    store64(result, n216);
-                    return;
-                }
-                w69 = 0u;
-                const u64 w60 = (u32)(w186 > w684) + load64(frame + 24u);
-                const u64 w203 = (u32)(w186 < w903) + load64(frame + 72u);
-                const u64 w482 = load64(frame + 48u) + w203;
-                const u64 w51 = load64(frame + 56u);
-                if ((((u32)(w482 < w203) + w51) | (w60 | w482)) != 0u) {
-                    store64(result + 8u, 0u);
-                    store64(result + 24u, w69);
-                    store64(result + 16u, w68);
-                    store64(result, n216);
-                    return;
-                }
-                w259 = load64(frame + 8u);
-                w59 = load64(frame);
-                n216 = ((w259 ^ 9223372036854775808ull) | w59) != 0u;
-                w69 = n216 ? w259 : 0u;
-                w68 = n216 ? w59 : 0u;
-                store64(result + 8u, 0u);
-                store64(result + 24u, w69);
-                store64(result + 16u, w68);
-                store64(result, n216);
-                return;
-            }
-        L826:;
-            const u64 w245 = ((u32)(w899 + 9223372036854775808ull < w899) + w718) | ((u32)(w265 +
-                9223372036854775808ull < w265) + w69);
-            if (w245 == 0u) {
-                const u64 w672 = w265 + 1u;
-                u64 w60;
-                if (w672 <= 1u) {
-                    if ((u32)(word)w672 - 1u) {
-                        if (w899 != 9223372036854775808ull) {
-                            w60 = 0u - w899;
-                            w59 = w60;
-                            w259 = (u64)((i64)w59 >> 63);
-                            n216 = ((w259 ^ 9223372036854775808ull) | w59) != 0u;
-                            w69 = n216 ? w259 : 0u;
-                            w68 = n216 ? w59 : 0u;
+                    if (load8(a) == 1u) {
+                        if (load8(b) != 1u) {
+                            store64(result + 24u, 0u);
+                            store64(result + 16u, 0u);
                             store64(result + 8u, 0u);
-                            store64(result + 24u, w69);
-                            store64(result + 16u, w68);
-                            store64(result, n216);
+                            store64(result, 0u);
                             return;
                         }
+                        w69 = load64(b + 24u);
+                        w265 = load64(b + 16u);
+                        w718 = load64(a + 24u);
+                        w899 = load64(a + 16u);
+                        switch ((u32)((word)operation & 255u) - 1u) {
+                        case 0:
+                            goto L504;
+                        case 1:
+                            goto L206;
+                        case 2:
+                            goto L826;
+                        default:
+                            goto L493;
+                        }
                     }
-                } else {
-                    w60 = div64_s(w899, w265);
-                    w59 = w60;
-                    w259 = (u64)((i64)w59 >> 63);
+                    store64(result + 24u, 0u);
+                    store64(result + 16u, 0u);
+                    store64(result + 8u, 0u);
+                    store64(result, 0u);
+                    return;
+                }
+            L493:;
+                w59 = w899 + w265;
+                const u32 n879 = w899 > w59;
+                w259 = w69 + w718 + n879;
+                if ((w259 == w718 ? n879 : ((i64)w259 < (i64)w718)) ^ ((i64)w69 >= 0)) {
                     n216 = ((w259 ^ 9223372036854775808ull) | w59) != 0u;
                     w69 = n216 ? w259 : 0u;
                     w68 = n216 ? w59 : 0u;
@@ -4879,17 +5067,76 @@ INTERNAL void values_number_result_of(word result, u32 operation, word a, word b
                     store64(result, n216);
                     return;
                 }
-            }
-            const u64 w672 = w265 + 1u;
-            const u64 w555 = (u32)(w672 == 0u) + w69;
-            if ((u32)(w555 == 0u ? (w672 > 1u) : (w555 != 0u)) == 0u) {
+                w68 = 0u;
                 n216 = 0u;
-                w68 = w265;
+                w69 = 0u;
+                store64(result + 8u, 0u);
+                store64(result + 24u, w69);
+                store64(result + 16u, w68);
+                store64(result, n216);
+                return;
+            }
+        L206:;
+            const u32 n590 = (i64)w718 < 0;
+            const u64 w343 = n590 ? 0u - w899 : w899;
+            const u32 n977 = (i64)w69 < 0;
+            const u64 w781 = n977 ? 0u - w265 : w265;
+            multi3(frame + 32u, w343, 0u, w781, 0u);
+            const u64 w575 = n977 ? 0u - ((u32)(w265 != 0u) + w69) : w69;
+            multi3(frame + 64u, w343, 0u, w575, 0u);
+            const u64 w687 = n590 ? 0u - ((u32)(w899 != 0u) + w718) : w718;
+            multi3(frame + 16u, w687, 0u, w781, 0u);
+            multi3(frame + 48u, w687, 0u, w575, 0u);
+            multi3(frame, w899, w718, w265, w69);
+            n216 = 0u;
+            const word p541 = (word)((w69 ^ w718) >> 63);
+            const u64 w846 = p541 + 9223372036854775807ull;
+            const u64 w903 = load64(frame + 40u);
+            const u64 w186 = load64(frame + 64u) + w903;
+            const u64 w684 = load64(frame + 16u) + w186;
+            if ((w684 == w846 ? ((u64)p541 - 1u < load64(frame + 32u)) : (w684 > w846)) != 0u) {
+                w69 = 0u;
+                store64(result + 8u, 0u);
+                store64(result + 24u, w69);
+                store64(result + 16u, w68);
+                store64(result, n216);
+                return;
+            }
+            w69 = 0u;
+            const u64 w60 = (u32)(w186 > w684) + load64(frame + 24u);
+            const u64 w203 = (u32)(w186 < w903) + load64(frame + 72u);
+            const u64 w482 = load64(frame + 48u) + w203;
+            const u64 w51 = load64(frame + 56u);
+            if ((((u32)(w482 < w203) + w51) | (w60 | w482)) != 0u) {
+                store64(result + 8u, 0u);
+                store64(result + 24u, w69);
+                store64(result + 16u, w68);
+                store64(result, n216);
+                return;
+            }
+            w259 = load64(frame + 8u);
+            w59 = load64(frame);
+            n216 = ((w259 ^ 9223372036854775808ull) | w59) != 0u;
+            w69 = n216 ? w259 : 0u;
+            w68 = n216 ? w59 : 0u;
+            store64(result + 8u, 0u);
+            store64(result + 24u, w69);
+            store64(result + 16u, w68);
+            store64(result, n216);
+            return;
+        }
+    L826:;
+        const u64 w245 = ((u32)(w899 + 9223372036854775808ull < w899) + w718) | ((u32)(w265 + 9223372036854775808ull
+            < w265) + w69);
+        if (w245 == 0u) {
+            const u64 w672 = w265 + 1u;
+            u64 w60;
+            if (w672 <= 1u) {
                 if ((u32)(word)w672 - 1u) {
-                    w68 = 0u;
-                    if (((w718 ^ 9223372036854775808ull) | w899) != 0u) {
-                        w59 = 0u - w899;
-                        w259 = 0u - ((u32)(w899 != 0u) + w718);
+                    if (w899 != 9223372036854775808ull) {
+                        w60 = 0u - w899;
+                        w59 = w60;
+                        w259 = (u64)((i64)w59 >> 63);
                         n216 = ((w259 ^ 9223372036854775808ull) | w59) != 0u;
                         w69 = n216 ? w259 : 0u;
                         w68 = n216 ? w59 : 0u;
@@ -4899,34 +5146,11 @@ INTERNAL void values_number_result_of(word result, u32 operation, word a, word b
                         store64(result, n216);
                         return;
                     }
-                    w69 = 0u;
                 }
-                store64(result + 8u, 0u);
-                store64(result + 24u, w69);
-                store64(result + 16u, w68);
-                store64(result, n216);
-                return;
-            }
-            const u32 n590 = (i64)w718 < 0;
-            const u64 w687 = n590 ? 0u - ((u32)(w899 != 0u) + w718) : w718;
-            const u32 n977 = (i64)w69 < 0;
-            const u64 w781 = n977 ? 0u - w265 : w265;
-            const u64 w575 = n977 ? 0u - ((u32)(w265 != 0u) + w69) : w69;
-            const u64 w343 = n590 ? 0u - w899 : w899;
-            const u64 w110 = w575 != 0u ? clz64(w575) : (u64)clz64(w781) + 64u;
-            const u64 w288 = w687 != 0u ? clz64(w687) : (u64)clz64(w343) + 64u;
-            const u64 w866 = w110 - w288;
-            const u64 w75 = (u64)0u - (u32)(w110 < w288);
-            const u32 n63 = ((u32)((w575 | w781) == 0u) | ((w687 | w343) == 0u)) | (w75 == 0u ? (w866 > 127u) : (w75
-                != 0u));
-            const u32 n556 = n63;
-            w352 = n556 ? 0u : w687;
-            w729 = n556 ? 0u : w343;
-            w769 = (u64)((i64)(w69 ^ w718) >> 63);
-            if (n556) {
-                w304 = w729 ^ w769;
-                w259 = (w352 ^ w769) - w769 - (u32)(w769 > w304);
-                w59 = w304 - w769;
+            } else {
+                w60 = div64_s(w899, w265);
+                w59 = w60;
+                w259 = (u64)((i64)w59 >> 63);
                 n216 = ((w259 ^ 9223372036854775808ull) | w59) != 0u;
                 w69 = n216 ? w259 : 0u;
                 w68 = n216 ? w59 : 0u;
@@ -4936,67 +5160,127 @@ INTERNAL void values_number_result_of(word result, u32 operation, word a, word b
                 store64(result, n216);
                 return;
             }
-            if (((w866 ^ 127u) | w75) == 0u) {
-                w304 = w729 ^ w769;
-                w259 = (w352 ^ w769) - w769 - (u32)(w769 > w304);
-                w59 = w304 - w769;
-                n216 = ((w259 ^ 9223372036854775808ull) | w59) != 0u;
-                w69 = n216 ? w259 : 0u;
-                w68 = n216 ? w59 : 0u;
-                store64(result + 8u, 0u);
-                store64(result + 24u, w69);
-                store64(result + 16u, w68);
-                store64(result, n216);
-                return;
-            }
-            ashlti3(frame + 96u, w343, w687, 127u - (u32)(word)w866);
-            w55 = load64(frame + 104u);
-            w636 = load64(frame + 96u);
-            u64 w458 = w866 + 1u;
-            u64 w76 = (u32)(w458 == 0u) + w75;
-            if ((w458 | w76) == 0u) {
-                p68 = 0u;
-                break;
-            }
-            lshrti3(frame + 80u, w343, w687, (u32)(word)w458);
-            const u64 w521 = w781 - 1u;
-            const u64 w113 = w575 - (u32)(w781 == 0u);
-            u64 w188 = load64(frame + 88u);
-            u64 w283 = load64(frame + 80u);
-            p68 = 0u;
-            u64 w641 = 0;
-            do {
-                const word p353 = p68;
-                const u64 w799 = (w188 << 1) | (word)(w283 >> 63);
-                const u64 w800 = (w283 << 1) | (word)(w55 >> 63);
-                const u64 w200 = (u64)((i64)(w113 - w799 - (u32)(w521 < w800)) >> 63);
-                const u64 w557 = w200 & w781;
-                w188 = w799 - (w575 & w200) - (u32)(w557 > w800);
-                p68 = (word)w200 & 1u;
-                w283 = w800 - w557;
-                w55 = (w55 << 1) | (word)(w636 >> 63);
-                const u32 n121 = w458 == 0u;
-                w636 = (w636 << 1) | p353;
-                w641 = w458 - 1u;
-                w458 = w641;
-                w76 = w76 - n121;
-            } while ((w76 | w641) != 0u);
-            break;
         }
-    L504:;
-        w59 = w899 - w265;
-        const u32 n959 = w899 < w59;
-        w259 = w718 - w69 - (u32)(w899 < w265);
-        if ((w259 == w718 ? n959 : ((i64)w259 > (i64)w718)) == (u32)((i64)w69 >= 0)) {
-            w68 = 0u;
+        const u64 w672 = w265 + 1u;
+        const u64 w555 = (u32)(w672 == 0u) + w69;
+        if ((u32)(w555 == 0u ? (w672 > 1u) : (w555 != 0u)) == 0u) {
             n216 = 0u;
-            w69 = 0u;
+            w68 = w265;
+            if ((u32)(word)w672 - 1u) {
+                w68 = 0u;
+                if (((w718 ^ 9223372036854775808ull) | w899) != 0u) {
+                    w59 = 0u - w899;
+                    w259 = 0u - ((u32)(w899 != 0u) + w718);
+                    n216 = ((w259 ^ 9223372036854775808ull) | w59) != 0u;
+                    w69 = n216 ? w259 : 0u;
+                    w68 = n216 ? w59 : 0u;
+                    store64(result + 8u, 0u);
+                    store64(result + 24u, w69);
+                    store64(result + 16u, w68);
+                    store64(result, n216);
+                    return;
+                }
+                w69 = 0u;
+            }
             store64(result + 8u, 0u);
             store64(result + 24u, w69);
             store64(result + 16u, w68);
             store64(result, n216);
             return;
         }
+        const u32 n590 = (i64)w718 < 0;
+        const u64 w687 = n590 ? 0u - ((u32)(w899 != 0u) + w718) : w718;
+        const u32 n977 = (i64)w69 < 0;
+        const u64 w781 = n977 ? 0u - w265 : w265;
+        const u64 w575 = n977 ? 0u - ((u32)(w265 != 0u) + w69) : w69;
+        const u64 w343 = n590 ? 0u - w899 : w899;
+        const u64 w110 = w575 != 0u ? clz64(w575) : (u64)clz64(w781) + 64u;
+        const u64 w288 = w687 != 0u ? clz64(w687) : (u64)clz64(w343) + 64u;
+        const u64 w866 = w110 - w288;
+        const u64 w75 = (u64)0u - (u32)(w110 < w288);
+        const u32 n63 = ((u32)((w575 | w781) == 0u) | ((w687 | w343) == 0u)) | (w75 == 0u ? (w866 > 127u) : (w75 !=
+            0u));
+        const u32 n556 = n63;
+        u64 w352 = n556 ? 0u : w687;
+        u64 w729 = n556 ? 0u : w343;
+        const u64 w769 = (u64)((i64)(w69 ^ w718) >> 63);
+        u64 w304;
+        if (n556) {
+            w304 = w729 ^ w769;
+            w259 = (w352 ^ w769) - w769 - (u32)(w769 > w304);
+            w59 = w304 - w769;
+            n216 = ((w259 ^ 9223372036854775808ull) | w59) != 0u;
+            w69 = n216 ? w259 : 0u;
+            w68 = n216 ? w59 : 0u;
+            store64(result + 8u, 0u);
+            store64(result + 24u, w69);
+            store64(result + 16u, w68);
+            store64(result, n216);
+            return;
+        }
+        if (((w866 ^ 127u) | w75) == 0u) {
+            w304 = w729 ^ w769;
+            w259 = (w352 ^ w769) - w769 - (u32)(w769 > w304);
+            w59 = w304 - w769;
+            n216 = ((w259 ^ 9223372036854775808ull) | w59) != 0u;
+            w69 = n216 ? w259 : 0u;
+            w68 = n216 ? w59 : 0u;
+            store64(result + 8u, 0u);
+            store64(result + 24u, w69);
+            store64(result + 16u, w68);
+            store64(result, n216);
+            return;
+        }
+        ashlti3(frame + 96u, w343, w687, 127u - (u32)(word)w866);
+        u64 w55 = load64(frame + 104u);
+        u64 w636 = load64(frame + 96u);
+        u64 w458 = w866 + 1u;
+        u64 w76 = (u32)(w458 == 0u) + w75;
+        word p68;
+        if ((w458 | w76) == 0u) {
+            p68 = 0u;
+            w352 = (w55 << 1) | (word)(w636 >> 63);
+            w729 = (w636 << 1) | p68;
+            w304 = w729 ^ w769;
+            w259 = (w352 ^ w769) - w769 - (u32)(w769 > w304);
+            w59 = w304 - w769;
+            n216 = ((w259 ^ 9223372036854775808ull) | w59) != 0u;
+            w69 = n216 ? w259 : 0u;
+            w68 = n216 ? w59 : 0u;
+            store64(result + 8u, 0u);
+            store64(result + 24u, w69);
+            store64(result + 16u, w68);
+            store64(result, n216);
+            return;
+        }
+        lshrti3(frame + 80u, w343, w687, (u32)(word)w458);
+        const u64 w521 = w781 - 1u;
+        const u64 w113 = w575 - (u32)(w781 == 0u);
+        u64 w188 = load64(frame + 88u);
+        u64 w283 = load64(frame + 80u);
+        p68 = 0u;
+        u64 w641 = 0;
+        do {
+            const word p353 = p68;
+            const u64 w799 = (w188 << 1) | (word)(w283 >> 63);
+            const u64 w800 = (w283 << 1) | (word)(w55 >> 63);
+            const u64 w200 = (u64)((i64)(w113 - w799 - (u32)(w521 < w800)) >> 63);
+            const u64 w557 = w200 & w781;
+            w188 = w799 - (w575 & w200) - (u32)(w557 > w800);
+            p68 = (word)w200 & 1u;
+            w283 = w800 - w557;
+            w55 = (w55 << 1) | (word)(w636 >> 63);
+            const u32 n121 = w458 == 0u;
+            w636 = (w636 << 1) | p353;
+            w641 = w458 - 1u;
+            w458 = w641;
+            w76 = w76 - n121;
+        } while ((w76 | w641) != 0u);
+        w352 = (w55 << 1) | (word)(w636 >> 63);
+        w729 = (w636 << 1) | p68;
+        w304 = w729 ^ w769;
+        w259 = (w352 ^ w769) - w769 - (u32)(w769 > w304);
+        w59 = w304 - w769;
         n216 = ((w259 ^ 9223372036854775808ull) | w59) != 0u;
         w69 = n216 ? w259 : 0u;
         w68 = n216 ? w59 : 0u;
@@ -5005,15 +5289,24 @@ INTERNAL void values_number_result_of(word result, u32 operation, word a, word b
         store64(result + 16u, w68);
         store64(result, n216);
         return;
-    } while (0);
-    w352 = (w55 << 1) | (word)(w636 >> 63);
-    w729 = (w636 << 1) | p68;
-    w304 = w729 ^ w769;
-    w259 = (w352 ^ w769) - w769 - (u32)(w769 > w304);
-    w59 = w304 - w769;
-    n216 = ((w259 ^ 9223372036854775808ull) | w59) != 0u;
-    w69 = n216 ? w259 : 0u;
-    w68 = n216 ? w59 : 0u;
+    }
+L504:;
+    w59 = w899 - w265;
+    const u32 n959 = w899 < w59;
+    w259 = w718 - w69 - (u32)(w899 < w265);
+    if ((w259 == w718 ? n959 : ((i64)w259 > (i64)w718)) != (u32)((i64)w69 >= 0)) {
+        n216 = ((w259 ^ 9223372036854775808ull) | w59) != 0u;
+        w69 = n216 ? w259 : 0u;
+        w68 = n216 ? w59 : 0u;
+        store64(result + 8u, 0u);
+        store64(result + 24u, w69);
+        store64(result + 16u, w68);
+        store64(result, n216);
+        return;
+    }
+    w68 = 0u;
+    n216 = 0u;
+    w69 = 0u;
     store64(result + 8u, 0u);
     store64(result + 24u, w69);
     store64(result + 16u, w68);
@@ -5023,7 +5316,7 @@ INTERNAL void values_number_result_of(word result, u32 operation, word a, word b
 
 /* ---- The crate trac_store ---- */
 
-#if UNITS & 0xd
+#if UNITS & 0x15
 
 /* trac_store::arguments::before_far_comma. */
 static INLINE u32 store_arguments_before_far_comma(word cells, u64 cells_len) {
@@ -5095,7 +5388,7 @@ static INLINE u32 store_arguments_before_far_comma(word cells, u64 cells_len) {
 }
 #endif
 
-#if UNITS & 0x9
+#if UNITS & 0x5
 
 /* trac_store::borders::tag_borders. */
 static INLINE void store_borders_tag_borders(word space, u32 part_from, u32 part_to) {
@@ -5183,7 +5476,7 @@ static INLINE void store_borders_tag_borders(word space, u32 part_from, u32 part
 }
 #endif
 
-#if UNITS & 0x1b
+#if UNITS & 0x19
 
 /* Does what `find_between` does as a function of its own, whose loop has all registers. */
 static INLINE void store_form_cells_find_between_by_call(word a1, word a2, u32 a3, u32 a4, u32 a5, word a6, u64 a7) {
@@ -5244,7 +5537,7 @@ static INLINE void store_form_cells_find_between_by_call(word a1, word a2, u32 a
 }
 #endif
 
-#if UNITS & 0x9
+#if UNITS & 0x11
 
 /* The form with this name, which isn't null. */
 INTERNAL void store_form_cells_find_from_last(word a1, word a2, u32 a3, u32 a4, u32 a5, word a6, u64 a7) {
@@ -5354,7 +5647,7 @@ INTERNAL void store_form_cells_find_from_last(word a1, word a2, u32 a3, u32 a4, 
 }
 #endif
 
-#if UNITS & 0x3
+#if UNITS & 0x9
 
 /* trac_store::item_copies::load_items_over_index. */
 INTERNAL void store_item_copies_load_items_over_index(word result, word space, u32 items_from, u32 items_to) {
@@ -5953,71 +6246,82 @@ L810:;
 
 /* ---- The crate trac_forms ---- */
 
-#if UNITS & 0x9
+#if UNITS & 0x5
 
 /* Copies the characters of the form's body from place `a` up to `b` to the end of neutral. */
 static u32 forms_work_Work_copy_body(word self, u32 form, u32 a, u32 b) {
     u32 n216 = load32(self + 48u);
     const u32 n465 = load32(self + 44u);
-    if (form != n465) {
-        if (form > n465) {
-            u32 n308 = form - n465;
-            const u32 n135 = load32(self + 16u);
-            do {
-                u32 n217;
-                if (n216 < n135) {
-                    const word p38 = ((word)n216 << 3) + load_word(self);
-                    n217 = load8(p38) == 4u ? load32(p38 + 4u) : 0u;
-                } else {
-                    n217 = 0u;
-                }
-                const u32 n984 = n216 + 3u + n217;
-                const u32 n630 = n216 + 1u;
-                u32 n41;
-                if (n135 > n630) {
-                    const word p709 = ((word)n630 << 3) + load_word(self);
-                    n41 = load8(p709) == 4u ? load32(p709 + 4u) : 0u;
-                } else {
-                    n41 = 0u;
-                }
-                n216 = n41 + n984;
-                n308 = n308 - 1u;
-            } while (n308 != 0u);
-        } else if (form == 0u) {
-            n216 = 0u;
-        } else {
-            const u32 n135 = load32(self + 16u);
-            n216 = 0u;
-            do {
-                const u32 n251 = n216 + 3u;
-                u32 n217;
-                if (n216 < n135) {
-                    const word p38 = ((word)n216 << 3) + load_word(self);
-                    n217 = load8(p38) == 4u ? load32(p38 + 4u) : 0u;
-                } else {
-                    n217 = 0u;
-                }
-                const u32 n826 = n217 + n251;
-                const u32 n630 = n216 + 1u;
-                u32 n41;
-                if (n135 > n630) {
-                    const word p709 = ((word)n630 << 3) + load_word(self);
-                    n41 = load8(p709) == 4u ? load32(p709 + 4u) : 0u;
-                } else {
-                    n41 = 0u;
-                }
-                n216 = n41 + n826;
-                form = form - 1u;
-            } while (form != 0u);
-        }
+    word p243;
+    u32 n463;
+    if (form == n465) {
+        p243 = load_word(self);
+        n463 = load32(((word)n216 << 3) + p243 + 4u) + n216 + 3u;
+        return space_space_Space_copy_store(self, a + n463, b + n463);
     }
-    const word p243 = load_word(self);
-    const u32 n999 = load32(((word)n216 << 3) + p243 + 4u) + n216 + 3u;
-    return space_space_Space_copy_store(self, a + n999, b + n999);
+    if (form > n465) {
+        u32 n308 = form - n465;
+        const u32 n135 = load32(self + 16u);
+        do {
+            u32 n217;
+            if (n216 < n135) {
+                const word p38 = ((word)n216 << 3) + load_word(self);
+                n217 = load8(p38) == 4u ? load32(p38 + 4u) : 0u;
+            } else {
+                n217 = 0u;
+            }
+            const u32 n984 = n216 + 3u + n217;
+            const u32 n630 = n216 + 1u;
+            u32 n41;
+            if (n135 > n630) {
+                const word p709 = ((word)n630 << 3) + load_word(self);
+                n41 = load8(p709) == 4u ? load32(p709 + 4u) : 0u;
+            } else {
+                n41 = 0u;
+            }
+            n216 = n41 + n984;
+            n308 = n308 - 1u;
+        } while (n308 != 0u);
+        p243 = load_word(self);
+        n463 = load32(((word)n216 << 3) + p243 + 4u) + n216 + 3u;
+        return space_space_Space_copy_store(self, a + n463, b + n463);
+    }
+    if (form == 0u) {
+        n216 = 0u;
+        p243 = load_word(self);
+        n463 = load32(((word)n216 << 3) + p243 + 4u) + n216 + 3u;
+        return space_space_Space_copy_store(self, a + n463, b + n463);
+    }
+    const u32 n135 = load32(self + 16u);
+    n216 = 0u;
+    do {
+        const u32 n251 = n216 + 3u;
+        u32 n217;
+        if (n216 < n135) {
+            const word p38 = ((word)n216 << 3) + load_word(self);
+            n217 = load8(p38) == 4u ? load32(p38 + 4u) : 0u;
+        } else {
+            n217 = 0u;
+        }
+        const u32 n826 = n217 + n251;
+        const u32 n630 = n216 + 1u;
+        u32 n41;
+        if (n135 > n630) {
+            const word p709 = ((word)n630 << 3) + load_word(self);
+            n41 = load8(p709) == 4u ? load32(p709 + 4u) : 0u;
+        } else {
+            n41 = 0u;
+        }
+        n216 = n41 + n826;
+        form = form - 1u;
+    } while (form != 0u);
+    p243 = load_word(self);
+    n463 = load32(((word)n216 << 3) + p243 + 4u) + n216 + 3u;
+    return space_space_Space_copy_store(self, a + n463, b + n463);
 }
 #endif
 
-#if UNITS & 0x5
+#if UNITS & 0x9
 
 /* trac_forms::work::Work::remove. */
 INTERNAL void forms_work_Work_remove(word self, u32 form_number, u32 form_start) {
@@ -6171,7 +6475,7 @@ INTERNAL void forms_work_Work_delete_all(word self) {
 }
 #endif
 
-#if UNITS & 0x9
+#if UNITS & 0x5
 
 /* Sets the form's pointer to a place of its body, from 0 to its length. */
 static void forms_work_Work_set_pointer(word self, u32 form, u32 pointer) {
@@ -6259,7 +6563,7 @@ static void forms_work_Work_set_pointer(word self, u32 form, u32 pointer) {
 }
 #endif
 
-#if UNITS & 0x5
+#if UNITS & 0x9
 
 /* trac_forms::index::grow_index. */
 INTERNAL void forms_index_grow_index(word space, u32 count) {
@@ -6476,83 +6780,140 @@ INTERNAL void forms_index_index_worthwhile(word space, u32 count, word search_co
 }
 #endif
 
-#if UNITS & 0x9f
+#if UNITS & 0x3
 
 /* The form, to be read. */
-static INLINE void forms_work_Work_stored(word result, word self, u32 form) {
+INTERNAL void forms_work_Work_stored(word result, word self, u32 form) {
     u32 n216 = load32(self + 48u);
     const u32 n465 = load32(self + 44u);
-    if (form != n465) {
-        if (form > n465) {
-            u32 n308 = form - n465;
-            const u32 n135 = load32(self + 16u);
-            do {
-                u32 n217;
-                if (n216 < n135) {
-                    const word p38 = ((word)n216 << 3) + load_word(self);
-                    n217 = load8(p38) == 4u ? load32(p38 + 4u) : 0u;
-                } else {
-                    n217 = 0u;
-                }
-                const u32 n984 = n216 + 3u + n217;
-                const u32 n630 = n216 + 1u;
-                u32 n41;
-                if (n135 > n630) {
-                    const word p709 = ((word)n630 << 3) + load_word(self);
-                    n41 = load8(p709) == 4u ? load32(p709 + 4u) : 0u;
-                } else {
-                    n41 = 0u;
-                }
-                n216 = n41 + n984;
-                n308 = n308 - 1u;
-            } while (n308 != 0u);
-        } else if (form == 0u) {
-            n216 = 0u;
-        } else {
-            const u32 n135 = load32(self + 16u);
-            n216 = 0u;
-            do {
-                const u32 n251 = n216 + 3u;
-                u32 n217;
-                if (n216 < n135) {
-                    const word p38 = ((word)n216 << 3) + load_word(self);
-                    n217 = load8(p38) == 4u ? load32(p38 + 4u) : 0u;
-                } else {
-                    n217 = 0u;
-                }
-                const u32 n826 = n217 + n251;
-                const u32 n630 = n216 + 1u;
-                u32 n41;
-                if (n135 > n630) {
-                    const word p709 = ((word)n630 << 3) + load_word(self);
-                    n41 = load8(p709) == 4u ? load32(p709 + 4u) : 0u;
-                } else {
-                    n41 = 0u;
-                }
-                n216 = n41 + n826;
-                form = form - 1u;
-            } while (form != 0u);
-        }
+    u64 w243;
+    word p896;
+    u32 n865;
+    u32 n42;
+    u32 n282;
+    u32 n251;
+    word p34;
+    u32 n496;
+    word p35;
+    if (form == n465) {
+        w243 = load64(self);
+        p896 = ((word)n216 << 3) + (word)w243;
+        n865 = load32(p896 + 12u);
+        n42 = load32(p896 + 4u);
+        n282 = load32(p896 + 20u);
+        store32(result + 36u, 0u);
+        store32(result + 32u, n282);
+        n251 = n216 + 3u;
+        p34 = n251;
+        store64(result, ((u64)p34 << 3) + w243);
+        n496 = n42 + n251;
+        p35 = n496;
+        store64(result + 8u, (u64)p35 - p34);
+        store64(result + 24u, (u64)(n496 + n865) - p35);
+        store64(result + 16u, ((u64)p35 << 3) + w243);
+        return;
     }
-    const u64 w243 = load64(self);
-    const word p38 = ((word)n216 << 3) + (word)w243;
-    const u32 n716 = load32(p38 + 12u);
-    const u32 n778 = load32(p38 + 4u);
-    const u32 n18 = load32(p38 + 20u);
+    if (form > n465) {
+        u32 n308 = form - n465;
+        const u32 n135 = load32(self + 16u);
+        do {
+            u32 n217;
+            if (n216 < n135) {
+                const word p38 = ((word)n216 << 3) + load_word(self);
+                n217 = load8(p38) == 4u ? load32(p38 + 4u) : 0u;
+            } else {
+                n217 = 0u;
+            }
+            const u32 n984 = n216 + 3u + n217;
+            const u32 n630 = n216 + 1u;
+            u32 n41;
+            if (n135 > n630) {
+                const word p709 = ((word)n630 << 3) + load_word(self);
+                n41 = load8(p709) == 4u ? load32(p709 + 4u) : 0u;
+            } else {
+                n41 = 0u;
+            }
+            n216 = n41 + n984;
+            n308 = n308 - 1u;
+        } while (n308 != 0u);
+        w243 = load64(self);
+        p896 = ((word)n216 << 3) + (word)w243;
+        n865 = load32(p896 + 12u);
+        n42 = load32(p896 + 4u);
+        n282 = load32(p896 + 20u);
+        store32(result + 36u, 0u);
+        store32(result + 32u, n282);
+        n251 = n216 + 3u;
+        p34 = n251;
+        store64(result, ((u64)p34 << 3) + w243);
+        n496 = n42 + n251;
+        p35 = n496;
+        store64(result + 8u, (u64)p35 - p34);
+        store64(result + 24u, (u64)(n496 + n865) - p35);
+        store64(result + 16u, ((u64)p35 << 3) + w243);
+        return;
+    }
+    if (form == 0u) {
+        n216 = 0u;
+        w243 = load64(self);
+        p896 = ((word)n216 << 3) + (word)w243;
+        n865 = load32(p896 + 12u);
+        n42 = load32(p896 + 4u);
+        n282 = load32(p896 + 20u);
+        store32(result + 36u, 0u);
+        store32(result + 32u, n282);
+        n251 = n216 + 3u;
+        p34 = n251;
+        store64(result, ((u64)p34 << 3) + w243);
+        n496 = n42 + n251;
+        p35 = n496;
+        store64(result + 8u, (u64)p35 - p34);
+        store64(result + 24u, (u64)(n496 + n865) - p35);
+        store64(result + 16u, ((u64)p35 << 3) + w243);
+        return;
+    }
+    const u32 n135 = load32(self + 16u);
+    n216 = 0u;
+    do {
+        const u32 n252 = n216 + 3u;
+        u32 n217;
+        if (n216 < n135) {
+            const word p38 = ((word)n216 << 3) + load_word(self);
+            n217 = load8(p38) == 4u ? load32(p38 + 4u) : 0u;
+        } else {
+            n217 = 0u;
+        }
+        const u32 n826 = n217 + n252;
+        const u32 n630 = n216 + 1u;
+        u32 n41;
+        if (n135 > n630) {
+            const word p709 = ((word)n630 << 3) + load_word(self);
+            n41 = load8(p709) == 4u ? load32(p709 + 4u) : 0u;
+        } else {
+            n41 = 0u;
+        }
+        n216 = n41 + n826;
+        form = form - 1u;
+    } while (form != 0u);
+    w243 = load64(self);
+    p896 = ((word)n216 << 3) + (word)w243;
+    n865 = load32(p896 + 12u);
+    n42 = load32(p896 + 4u);
+    n282 = load32(p896 + 20u);
     store32(result + 36u, 0u);
-    store32(result + 32u, n18);
-    const u32 n251 = n216 + 3u;
-    const word p764 = n251;
-    store64(result, ((u64)p764 << 3) + w243);
-    const u32 n561 = n778 + n251;
-    const word p534 = n561;
-    store64(result + 8u, (u64)p534 - p764);
-    store64(result + 24u, (u64)(n561 + n716) - p534);
-    store64(result + 16u, ((u64)p534 << 3) + w243);
+    store32(result + 32u, n282);
+    n251 = n216 + 3u;
+    p34 = n251;
+    store64(result, ((u64)p34 << 3) + w243);
+    n496 = n42 + n251;
+    p35 = n496;
+    store64(result + 8u, (u64)p35 - p34);
+    store64(result + 24u, (u64)(n496 + n865) - p35);
+    store64(result + 16u, ((u64)p35 << 3) + w243);
 }
 #endif
 
-#if UNITS & 0x4
+#if UNITS & 0x8
 
 /* Removes the form with this name, and says whether there was one. */
 INTERNAL u32 forms_work_Work_delete_by_name(word self, word name, u64 name_len) {
@@ -6625,7 +6986,7 @@ INTERNAL u32 forms_work_Work_delete_by_name(word self, word name, u64 name_len) 
 }
 #endif
 
-#if UNITS & 0x9
+#if UNITS & 0x5
 
 /* The place of the first character of the form's body at `from` or after. */
 static INLINE void forms_work_Work_next_char(word result, word self, u32 form, u32 from) {
@@ -6780,7 +7141,7 @@ static INLINE u32 forms_work_Work_place_of(word self, u32 k) {
 }
 #endif
 
-#if UNITS & 0x7
+#if UNITS & 0xd
 
 /* The form at place `k` of the list, from 0, in the order in which the forms were defined. */
 static INLINE void forms_work_Work_form(word result, word self, u32 k) {
@@ -6856,7 +7217,7 @@ static INLINE void forms_work_Work_form(word result, word self, u32 k) {
 }
 #endif
 
-#if UNITS & 0x9
+#if UNITS & 0x5
 
 /* trac_forms::work::Work::find_among_few. */
 INTERNAL void forms_work_Work_find_among_few(word result, word self, u32 a, u32 b) {
@@ -6956,6 +7317,9 @@ INTERNAL void forms_work_Work_find_among_few(word result, word self, u32 a, u32 
     store32(result + 4u, n14);
     store8(result, n216);
 }
+#endif
+
+#if UNITS & 0x11
 
 /* trac_forms::work::Work::find_among_more. */
 INTERNAL void forms_work_Work_find_among_more(word result, word self, u32 a, u32 b) {
@@ -7404,6 +7768,9 @@ L28:;
     store32(result + 4u, n14);
     store8(result, n216);
 }
+#endif
+
+#if UNITS & 0x5
 
 /* How many items the form's body has. */
 static INLINE u32 forms_work_Work_body_len(word self, u32 form) {
@@ -7524,7 +7891,7 @@ static INLINE u32 forms_work_Work_pointer(word self, u32 form) {
 }
 #endif
 
-#if UNITS & 0xc5
+#if UNITS & 0xa5
 
 /* Removes all but the first `n` cells of neutral. */
 static INLINE void forms_work_Work_cut_neutral(word self, u32 n) {
@@ -7646,6 +8013,9 @@ static void forms_work_Work_drop_neutral(word self, u32 a, u32 b) {
     p558 = self + 20u;
     store32(p558, a - b + load32(p558));
 }
+#endif
+
+#if UNITS & 0x5
 
 /* trac_forms::work::Work::load_other_part. */
 INTERNAL u32 forms_work_Work_load_other_part(word self, u32 a, u32 b) {
@@ -7907,10 +8277,10 @@ INTERNAL void forms_work_Work_active_to_neutral(word self, u32 n) {
 
 /* ---- The crate trac_devices ---- */
 
-#if UNITS & 0x5
+#if UNITS & 0x9
 
 /* trac_devices::slice_source::SliceSourceSource::take_held::<#ef32c384bdb8e429>. */
-static void devices_slice_source_SliceSourceSource_take_held(word self, u32 stop, word neutral) {
+INTERNAL void devices_slice_source_SliceSourceSource_take_held(word self, u32 stop, word neutral) {
     const word p243 = load_word(self);
     const word p966 = neutral + 20u;
     u32 n487 = load32(neutral + 16u) + load32(p966);
@@ -8187,6 +8557,9 @@ INTERNAL u32 functions_arguments_put_part(word work, u32 part_from, u32 part_to)
     n216 = 1u;
     return n216;
 }
+#endif
+
+#if UNITS & 0x9
 
 /* `ad,N1,N2,Z`, `su,N1,N2,Z`, `ml,N1,N2,Z` and `dv,N1,N2,Z`: */
 INTERNAL void functions_arithmetic_arithmetic(word result, word work, u32 operation, word arguments) {
@@ -10089,7 +10462,7 @@ L350:;
 }
 #endif
 
-#if UNITS & 0x9
+#if UNITS & 0x5
 
 /* `bu,A,B`: */
 INTERNAL void functions_bit_strings_union(word result, word work, word arguments) {
@@ -10706,9 +11079,6 @@ static void functions_bit_strings_give_bits(word a1, word a2, u32 a3, u32 a4, wo
     store16(a1, 1u);
     store32(a1 + 4u, 0u);
 }
-#endif
-
-#if UNITS & 0x5
 
 /* `eq,A,B,X,Y`: */
 INTERNAL void functions_comparing_equal(word result, word work, word arguments) {
@@ -11145,7 +11515,7 @@ L753:;
 }
 #endif
 
-#if UNITS & 0x11
+#if UNITS & 0x9
 
 /* `ds,N,X`: */
 INTERNAL void functions_form_calls_define_string(word result, word work, word arguments) {
@@ -11858,7 +12228,7 @@ L28:;
 }
 #endif
 
-#if UNITS & 0x9
+#if UNITS & 0x5
 
 /* `ss,N,X1,X2,..`: */
 INTERNAL void functions_form_calls_segment_string(word result, word work, word arguments) {
@@ -12389,9 +12759,6 @@ INTERNAL void functions_form_calls_segment_string(word result, word work, word a
     store16(result, 1u);
     store32(result + 4u, 0u);
 }
-#endif
-
-#if UNITS & 0x5
 
 /* `ln,X`: */
 INTERNAL void functions_form_calls_list_names(word result, word work, word arguments) {
@@ -12483,7 +12850,7 @@ INTERNAL void functions_form_calls_list_names(word result, word work, word argum
 }
 #endif
 
-#if UNITS & 0x9
+#if UNITS & 0x11
 
 /* `dd,N1,N2,..`: */
 INTERNAL void functions_form_calls_delete_definition(word result, word work, word arguments) {
@@ -13371,6 +13738,9 @@ INTERNAL void functions_form_calls_delete_definition(word result, word work, wor
 L67:;
     trap();
 }
+#endif
+
+#if UNITS & 0x5
 
 /* `cs,N,Z`: */
 INTERNAL void functions_form_parts_call_segment(word result, word work, word arguments) {
@@ -14963,9 +15333,6 @@ INTERNAL void functions_form_parts_call_restore(word result, word work, word arg
     store16(result, 1u);
     store32(result + 4u, 0u);
 }
-#endif
-
-#if UNITS & 0x11
 
 /* The function whose name has these two characters. */
 INTERNAL void functions_function_function_of(word result, word first, word second) {
@@ -15262,7 +15629,7 @@ L572:;
 
 /* ---- The crate trac_core ---- */
 
-#if UNITS & 0x9
+#if UNITS & 0x5
 
 /* What the function of the innermost call answers, which is `function`. */
 INTERNAL void core_call_answer(word a1, word a2, word a3, u32 a4, u32 a5, word a6, word a7, word a8) {
@@ -16200,6 +16567,9 @@ L914:;
     store32(a1 + 4u, n216);
     store8(a1 + 1u, n133);
 }
+#endif
+
+#if UNITS & 0x9
 
 /* Removes the call whose mark stands at the place. */
 INTERNAL void core_delivery_deliver(word work, u32 place, u32 from) {
@@ -16547,7 +16917,7 @@ static u32 core_display_show_items(word form, u32 from, u32 to) {
 }
 #endif
 
-#if UNITS & 0x10
+#if UNITS & 0x2
 
 /* Puts the display of the items of a form from a place up to another into a sink. (A copy for other types.) */
 static u32 core_display_show_items2(word form, u32 from, u32 to, word sink) {
@@ -16937,6 +17307,9 @@ INTERNAL u32 core_display_show_items3(word form, u32 from, u32 to, word sink) {
     } while (from < to);
     return n216;
 }
+#endif
+
+#if UNITS & 0x3
 
 /* Puts the display of the items of a form from a place up to another into a sink. (A copy for other types.) */
 INTERNAL u32 core_display_show_items4(word form, u32 from, u32 to, word sink) {
@@ -17251,7 +17624,7 @@ L104:;
 }
 #endif
 
-#if UNITS & 0x40
+#if UNITS & 0x20
 
 /* Puts the display of the items of a form from a place up to another into a sink. (A copy for other types.) */
 static u32 core_display_show_items5(word form, u32 from, u32 to, word sink) {
@@ -17350,7 +17723,7 @@ static u32 core_display_show_items5(word form, u32 from, u32 to, word sink) {
                     const word p381 = sink + 8u;
                     u64 w790 = load64(p381);
                     if (load64(sink + 16u) == w790) {
-                        if (std_alloc_vec_Vec_grow_amortized4(sink, 1u) == 0u) {
+                        if (std_alloc_vec_Vec_grow_amortized3(sink, 1u) == 0u) {
                             const word p136 = sink + 32u;
                             store64(p136, load64(p136) + 1u);
                             n216 = 1u;
@@ -17371,7 +17744,7 @@ static u32 core_display_show_items5(word form, u32 from, u32 to, word sink) {
                         do {
                             const u32 n356 = load8(frame + 8u + (word)w302);
                             if (load64(sink + 16u) == w301) {
-                                if (std_alloc_vec_Vec_grow_amortized4(sink, 1u) == 0u) {
+                                if (std_alloc_vec_Vec_grow_amortized3(sink, 1u) == 0u) {
                                     const word p136 = sink + 32u;
                                     store64(p136, load64(p136) + 1u);
                                     n216 = 1u;
@@ -17386,7 +17759,7 @@ static u32 core_display_show_items5(word form, u32 from, u32 to, word sink) {
                         } while (w302 != 40u);
                     }
                     if (load64(sink + 16u) == w301) {
-                        if (std_alloc_vec_Vec_grow_amortized4(sink, 1u) == 0u) {
+                        if (std_alloc_vec_Vec_grow_amortized3(sink, 1u) == 0u) {
                             const word p136 = sink + 32u;
                             store64(p136, load64(p136) + 1u);
                             n216 = 1u;
@@ -17417,7 +17790,7 @@ static u32 core_display_show_items5(word form, u32 from, u32 to, word sink) {
                         for (;;) {
                             const u32 n357 = load8(p46);
                             if (load64(sink + 16u) == w301) {
-                                if (std_alloc_vec_Vec_grow_amortized4(sink, 1u) == 0u)
+                                if (std_alloc_vec_Vec_grow_amortized3(sink, 1u) == 0u)
                                     break;
                                 w301 = load64(sink + 8u);
                             }
@@ -17440,7 +17813,7 @@ static u32 core_display_show_items5(word form, u32 from, u32 to, word sink) {
                     do {
                         const u32 n357 = load8(p46);
                         if (load64(sink + 16u) == w301) {
-                            if (std_alloc_vec_Vec_grow_amortized4(sink, 1u) == 0u) {
+                            if (std_alloc_vec_Vec_grow_amortized3(sink, 1u) == 0u) {
                                 const word p136 = sink + 32u;
                                 store64(p136, load64(p136) + 1u);
                                 n216 = 1u;
@@ -17469,7 +17842,7 @@ static u32 core_display_show_items5(word form, u32 from, u32 to, word sink) {
 }
 #endif
 
-#if UNITS & 0x11
+#if UNITS & 0x7
 
 /* How many bytes the display of a form has, which `show_form` puts into a sink. */
 static INLINE u32 core_display_display_len(word form) {
@@ -17616,7 +17989,7 @@ static INLINE u32 core_display_display_len(word form) {
 }
 #endif
 
-#if UNITS & 0x5
+#if UNITS & 0x9
 
 /* The active string is empty. */
 INTERNAL void core_idling_begin_idling(word work) {
@@ -18678,8 +19051,23 @@ INTERNAL void core_machine_advancing_go_on(word result, word work, word meta, u3
                                                         u32 n375;
                                                         if (n374 - load32(p411) <= 10u) {
                                                             if (space_space_Space_try_reserve_without_index(work,
-                                                                11u) == 0u)
-                                                                goto L410;
+                                                                11u) == 0u) {
+                                                                w927 = w219 - w487;
+                                                                w301 = w927 + w92;
+                                                                n864 = load32(work + 20u);
+                                                                n62 = 2u;
+                                                                n91 = n30;
+                                                                store16(result + 38u, 0u);
+                                                                store8(result + 37u, n62);
+                                                                store8(result + 36u, 1u);
+                                                                store32(result + 32u, n91);
+                                                                store64(result + 24u, w301);
+                                                                store32(result + 20u, 0u);
+                                                                store32(result + 16u, n864);
+                                                                store64(result + 8u, 0u);
+                                                                store64(result, w927);
+                                                                return;
+                                                            }
                                                             n371 = load32(work + 24u) + 11u;
                                                             p968 = load_word(work);
                                                             n375 = load32(work + 28u);
@@ -18878,65 +19266,63 @@ static void core_machine_advancing_go_on2(word a1, word a2, word a3, word a4, u6
                     {
                         {
                             {
-                                u32 n699;
-                                u32 n93;
                                 u64 w344;
                                 u64 w45;
                                 u32 n62;
+                                u32 n699;
+                                u32 n93;
                                 {
                                     {
+                                        u32 n39;
+                                        u32 n371;
+                                        u32 n700;
+                                        u32 n895;
                                         {
-                                            u32 n39;
-                                            u32 n371;
-                                            u32 n700;
-                                            u32 n895;
-                                            {
-                                                n712 = load32(a2 + 24u);
-                                                if (n712) {
-                                                    w34 = 1u;
-                                                    n692 = n71 - n712;
-                                                    const word p37 = n692;
-                                                    const word p312 = (p37 << 3) + p442;
-                                                    switch (load8(p312 + 1u) - 9u) {
-                                                    case 0:
-                                                    case 1:
-                                                    case 4:
-                                                        goto L104;
-                                                    case 31:
-                                                        goto L684;
-                                                    case 35:
-                                                        goto L101;
-                                                    case 26:
-                                                    {
-                                                        const u64 w750 = (u64)n71 - p37;
-                                                        if (w750 >= 2u) {
-                                                            const u32 n311 = load8(p312 + 9u);
-                                                            if (n311 == 40u) {
-                                                                const word p307 = a2 + 24u;
-                                                                store32(p307, n712 - 2u);
-                                                                const word p387 = a2 + 32u;
-                                                                const u32 n896 = load32(p387);
-                                                                const word p952 = a2 + 20u;
-                                                                const u32 n701 = load32(p952);
-                                                                const word p420 = a2 + 16u;
-                                                                const word p586 = ((word)(load32(p420) + n701) << 3)
-                                                                    + p442;
-                                                                store16(p586, 1u);
-                                                                const u32 n948 = n701 + 1u;
-                                                                store32(p586 + 4u, n896 ? n948 - n896 : 0u);
-                                                                store32(p952, n948);
-                                                                store32(p387, n948);
-                                                                if (load32(frame + 4u) > 1u)
+                                            n712 = load32(a2 + 24u);
+                                            if (n712) {
+                                                w34 = 1u;
+                                                n692 = n71 - n712;
+                                                const word p37 = n692;
+                                                const word p312 = (p37 << 3) + p442;
+                                                switch (load8(p312 + 1u) - 9u) {
+                                                case 0:
+                                                case 1:
+                                                case 4:
+                                                    goto L104;
+                                                case 31:
+                                                    goto L684;
+                                                case 35:
+                                                    goto L101;
+                                                case 26:
+                                                {
+                                                    const u64 w750 = (u64)n71 - p37;
+                                                    if (w750 >= 2u) {
+                                                        const u32 n311 = load8(p312 + 9u);
+                                                        if (n311 == 40u) {
+                                                            const word p307 = a2 + 24u;
+                                                            store32(p307, n712 - 2u);
+                                                            const word p387 = a2 + 32u;
+                                                            const u32 n896 = load32(p387);
+                                                            const word p952 = a2 + 20u;
+                                                            const u32 n701 = load32(p952);
+                                                            const word p420 = a2 + 16u;
+                                                            const word p586 = ((word)(load32(p420) + n701) << 3) + p442;
+                                                            store16(p586, 1u);
+                                                            const u32 n948 = n701 + 1u;
+                                                            store32(p586 + 4u, n896 ? n948 - n896 : 0u);
+                                                            store32(p952, n948);
+                                                            store32(p387, n948);
+                                                            if (load32(frame + 4u) > 1u)
                                                                 goto L314;
-                                                                const u32 n713 = load32(p307);
-                                                                const word p38 = load32(a2 + 28u) - n713;
-                                                                const word p333 = load32(p420) + n948;
-                                                                const word p443 = load_word(a2);
-                                                                const word p219 = n713;
-                                                                const u64 w641 = w353 - 1u;
-                                                                const u64 w42 = p219 < w641 ? p219 : w641;
-                                                                u64 w68;
-                                                                if (w42 >= 12u) {
+                                                            const u32 n713 = load32(p307);
+                                                            const word p38 = load32(a2 + 28u) - n713;
+                                                            const word p333 = load32(p420) + n948;
+                                                            const word p443 = load_word(a2);
+                                                            const word p219 = n713;
+                                                            const u64 w641 = w353 - 1u;
+                                                            const u64 w42 = p219 < w641 ? p219 : w641;
+                                                            u64 w68;
+                                                            if (w42 >= 12u) {
                                                                 const word p823 = (p333 << 3) + p443;
                                                                 const word p824 = (p38 << 3) + p443 + 1u;
                                                                 w68 = 0u;
@@ -18975,9 +19361,9 @@ static void core_machine_advancing_go_on2(word a1, word a2, word a3, word a4, u6
                                                                 if (n15 != 0u) {
                                                                 store32(frame, n15 + n948);
                                                                 }
-                                                                } else if (w42 == 0u) {
+                                                            } else if (w42 == 0u) {
                                                                 w68 = 0u;
-                                                                } else {
+                                                            } else {
                                                                 word p759 = (p333 << 3) + p443;
                                                                 word p760 = (p38 << 3) + p443 + 1u;
                                                                 w68 = 0u;
@@ -19014,12 +19400,12 @@ static void core_machine_advancing_go_on2(word a1, word a2, word a3, word a4, u6
                                                                 if (n15 != 0u) {
                                                                 store32(frame, n15 + n948);
                                                                 }
-                                                                }
-                                                                w34 = (u64)((word)w68 & 4294967295u) + 1u;
-                                                                goto L314;
                                                             }
-                                                            if (n311 == 35u) {
-                                                                if (w750 != 2u) {
+                                                            w34 = (u64)((word)w68 & 4294967295u) + 1u;
+                                                            goto L314;
+                                                        }
+                                                        if (n311 == 35u) {
+                                                            if (w750 != 2u) {
                                                                 if (load8(p312 + 17u) == 40u) {
                                                                 const word p307 = a2 + 24u;
                                                                 store32(p307, n712 - 3u);
@@ -19127,42 +19513,41 @@ static void core_machine_advancing_go_on2(word a1, word a2, word a3, word a4, u6
                                                                 w34 = (u64)((word)w68 & 4294967295u) + 1u;
                                                                 goto L314;
                                                                 }
-                                                                }
                                                             }
                                                         }
-                                                        store32(a2 + 24u, n712 - 1u);
-                                                        const word p387 = a2 + 32u;
-                                                        const u32 n896 = load32(p387);
-                                                        const word p952 = a2 + 20u;
-                                                        const u32 n701 = load32(p952);
-                                                        const word p586 = ((word)(load32(a2 + 16u) + n701) << 3) + p442;
-                                                        store16(p586, 8960u);
-                                                        store32(p586 + 4u, 0u);
-                                                        store32(p952, n701 + 1u);
-                                                        store32(p387, n896);
-                                                        goto L314;
                                                     }
-                                                    case 32:
-                                                    {
-                                                        const u32 n896 = load32(a2 + 32u);
-                                                        if (n896) {
-                                                            const u32 n569 = n712 - 1u;
-                                                            store32(a2 + 24u, n569);
-                                                            const u32 n244 = load32(frame);
-                                                            store64(frame + 8u, 0u);
-                                                            const u32 n897 = load32(a2 + 16u);
-                                                            const u32 n212 = n896 - 1u;
-                                                            const u32 n869 = load8(((word)(n897 + n212) << 3) + p442
-                                                                + 1u);
-                                                            const u32 n701 = load32(a2 + 20u);
-                                                            store8(frame + 46u, 0u);
-                                                            store16(frame + 44u, 0u);
-                                                            const u32 n90 = n897 + n701;
-                                                            n39 = n569 + n90;
-                                                            const u32 n174 = n869 == 0u;
-                                                            const word p624 = n212;
-                                                            do {
-                                                                {
+                                                    store32(a2 + 24u, n712 - 1u);
+                                                    const word p387 = a2 + 32u;
+                                                    const u32 n896 = load32(p387);
+                                                    const word p952 = a2 + 20u;
+                                                    const u32 n701 = load32(p952);
+                                                    const word p586 = ((word)(load32(a2 + 16u) + n701) << 3) + p442;
+                                                    store16(p586, 8960u);
+                                                    store32(p586 + 4u, 0u);
+                                                    store32(p952, n701 + 1u);
+                                                    store32(p387, n896);
+                                                    goto L314;
+                                                }
+                                                case 32:
+                                                {
+                                                    const u32 n896 = load32(a2 + 32u);
+                                                    if (n896) {
+                                                        const u32 n569 = n712 - 1u;
+                                                        store32(a2 + 24u, n569);
+                                                        const u32 n244 = load32(frame);
+                                                        store64(frame + 8u, 0u);
+                                                        const u32 n897 = load32(a2 + 16u);
+                                                        const u32 n212 = n896 - 1u;
+                                                        const u32 n869 = load8(((word)(n897 + n212) << 3) + p442 + 1u);
+                                                        const u32 n701 = load32(a2 + 20u);
+                                                        store8(frame + 46u, 0u);
+                                                        store16(frame + 44u, 0u);
+                                                        const u32 n90 = n897 + n701;
+                                                        n39 = n569 + n90;
+                                                        const u32 n174 = n869 == 0u;
+                                                        const word p624 = n212;
+                                                        do {
+                                                            {
                                                                 const word p294 = n897 + n896;
                                                                 const u64 w510 = (u64)n90 - p294;
                                                                 if (w510 >= 2u) {
@@ -19252,73 +19637,65 @@ static void core_machine_advancing_go_on2(word a1, word a2, word a3, word a4, u6
                                                                 break;
                                                                 }
                                                                 }
-                                                                }
-                                                            L419:;
-                                                                store16(frame + 37u, 0u);
-                                                                store8(frame + 39u, 0u);
-                                                                const u32 n179 = load32(((word)n897 << 3) + p442 +
-                                                                    (p624 << 3) + 4u);
-                                                                store32(a2 + 20u, n212);
-                                                                store32(frame + 24u, n896);
-                                                                store32(a2 + 32u, n179 ? n896 - n179 : 0u);
-                                                                store8(frame + 36u, n174);
-                                                                store32(frame + 32u, n244);
-                                                                store32(frame + 28u, n701);
-                                                                store32(frame + 20u, 0u);
-                                                                store32(frame + 16u, n212);
-                                                            } while (0);
-                                                        L856:;
-                                                            n371 = load32(a2 + 24u);
-                                                            n700 = load32(a2 + 20u);
-                                                            n895 = load32(a2 + 16u);
-                                                            goto L576;
-                                                        }
-                                                        store32(a2 + 24u, n712 - 1u);
-                                                        goto L314;
+                                                            }
+                                                        L419:;
+                                                            store16(frame + 37u, 0u);
+                                                            store8(frame + 39u, 0u);
+                                                            const u32 n179 = load32(((word)n897 << 3) + p442 + (p624
+                                                                << 3) + 4u);
+                                                            store32(a2 + 20u, n212);
+                                                            store32(frame + 24u, n896);
+                                                            store32(a2 + 32u, n179 ? n896 - n179 : 0u);
+                                                            store8(frame + 36u, n174);
+                                                            store32(frame + 32u, n244);
+                                                            store32(frame + 28u, n701);
+                                                            store32(frame + 20u, 0u);
+                                                            store32(frame + 16u, n212);
+                                                        } while (0);
+                                                    L856:;
+                                                        n371 = load32(a2 + 24u);
+                                                        n700 = load32(a2 + 20u);
+                                                        n895 = load32(a2 + 16u);
+                                                        goto L576;
                                                     }
-                                                    }
-                                                    w34 = core_scan_add_characters(a2, w353, frame);
-                                                    break;
+                                                    store32(a2 + 24u, n712 - 1u);
+                                                    goto L314;
                                                 }
-                                                const u32 n896 = load32(a2 + 16u);
-                                                if (w353 >= 8u) {
-                                                    if (load32(a2 + 8u) - n896 >= 11u) {
-                                                        store64(frame, 4u);
-                                                        const u32 n121 = load8(a3);
-                                                        store64(frame + 16u, 0u);
-                                                        const u32 n404 = n896 + 11u;
-                                                        n521 = n521 < n404 ? n404 : n521;
-                                                        u32 n701;
-                                                        u64 w68;
-                                                        do {
-                                                            u32 n667;
-                                                            u64 w953;
-                                                            u64 w301;
-                                                            u32 n493;
-                                                            u32 n702;
-                                                            {
-                                                                const u64 w699 = w353 - 8u;
-                                                                if (w699 != 0u) {
-                                                                core_read_in_place_read_in_place(frame + 16u, a2,
-                                                                    w353 - 9u, n121, a6);
-                                                                const u32 n361 = load32(frame + 20u);
-                                                                if (load8(frame + 16u) != 1u) {
+                                                }
+                                                w34 = core_scan_add_characters(a2, w353, frame);
+                                                break;
+                                            }
+                                            const u32 n896 = load32(a2 + 16u);
+                                            if (w353 >= 8u) {
+                                                if (load32(a2 + 8u) - n896 >= 11u) {
+                                                    store64(frame, 4u);
+                                                    const u32 n121 = load8(a3);
+                                                    store64(frame + 16u, 0u);
+                                                    const u32 n404 = n896 + 11u;
+                                                    n521 = n521 < n404 ? n404 : n521;
+                                                    u32 n701;
+                                                    u64 w68;
+                                                    do {
+                                                        const u64 w699 = w353 - 8u;
+                                                        if (w699 != 0u) {
+                                                            core_read_in_place_read_in_place(frame + 16u, a2, w353 -
+                                                                9u, n121, a6);
+                                                            const u32 n361 = load32(frame + 20u);
+                                                            if (load8(frame + 16u) != 1u) {
                                                                 n521 = n521 < n361 ? n361 : n521;
                                                                 n701 = load32(a2 + 20u);
                                                                 w68 = ((n701 - 4u) ^ 18446744073709551615ull) + w699;
                                                                 break;
-                                                                }
-                                                                n667 = n521 < n361 ? n361 : n521;
-                                                                w953 = w635 - w699;
-                                                                w301 = w46 + w953;
-                                                                n493 = load8(frame + 17u);
-                                                                const u32 n865 = 1u << (n493 & 31u);
-                                                                if (n865 & 3u) {
+                                                            }
+                                                            const u32 n667 = n521 < n361 ? n361 : n521;
+                                                            const u64 w953 = w635 - w699;
+                                                            u64 w301 = w46 + w953;
+                                                            const u32 n493 = load8(frame + 17u);
+                                                            const u32 n865 = 1u << (n493 & 31u);
+                                                            u32 n702;
+                                                            if (n865 & 3u) {
                                                                 w301 = w301 + 1u;
-                                                                goto L315;
-                                                                }
-                                                                if ((n865 & 12u) == 0u)
-                                                                goto L315;
+                                                                n521 = n667;
                                                                 n702 = load32(a2 + 20u);
                                                                 store16(a1 + 38u, 0u);
                                                                 store8(a1 + 37u, n493);
@@ -19330,14 +19707,21 @@ static void core_machine_advancing_go_on2(word a1, word a2, word a3, word a4, u6
                                                                 store64(a1 + 8u, 0u);
                                                                 store64(a1, w953);
                                                                 return;
-                                                                }
-                                                                core_idling_begin_idling(a2);
-                                                                n701 = load32(a2 + 20u);
-                                                                w68 = 0u;
-                                                                break;
                                                             }
-                                                        L315:;
-                                                            n521 = n667;
+                                                            if ((n865 & 12u) == 0u) {
+                                                                n521 = n667;
+                                                                n702 = load32(a2 + 20u);
+                                                                store16(a1 + 38u, 0u);
+                                                                store8(a1 + 37u, n493);
+                                                                store8(a1 + 36u, 1u);
+                                                                store32(a1 + 32u, n521);
+                                                                store64(a1 + 24u, w301);
+                                                                store32(a1 + 20u, 0u);
+                                                                store32(a1 + 16u, n702);
+                                                                store64(a1 + 8u, 0u);
+                                                                store64(a1, w953);
+                                                                return;
+                                                            }
                                                             n702 = load32(a2 + 20u);
                                                             store16(a1 + 38u, 0u);
                                                             store8(a1 + 37u, n493);
@@ -19349,65 +19733,83 @@ static void core_machine_advancing_go_on2(word a1, word a2, word a3, word a4, u6
                                                             store64(a1 + 8u, 0u);
                                                             store64(a1, w953);
                                                             return;
-                                                        } while (0);
-                                                        w353 = w68;
-                                                        n512 = load32(a2 + 16u) + n701 + load32(a2 + 24u);
-                                                        goto L278;
-                                                    }
+                                                        }
+                                                        core_idling_begin_idling(a2);
+                                                        n701 = load32(a2 + 20u);
+                                                        w68 = 0u;
+                                                    } while (0);
+                                                    w353 = w68;
+                                                    n512 = load32(a2 + 16u) + n701 + load32(a2 + 24u);
+                                                    goto L278;
                                                 }
-                                                store32(a2 + 32u, 0u);
-                                                const word p952 = a2 + 20u;
-                                                store32(p952, 0u);
-                                                n371 = 11u;
-                                                u32 n72;
-                                                if (n71 - n896 <= 10u) {
-                                                    if (space_space_Space_try_reserve_without_index(a2, 11u) == 0u)
-                                                        goto L895;
-                                                    n371 = load32(a2 + 24u) + 11u;
-                                                    p442 = load_word(a2);
-                                                    n72 = load32(a2 + 28u);
-                                                } else {
-                                                    n72 = n71;
-                                                }
-                                                space_byte_writing_write_many(((word)(n72 - n371) << 3) + p442,
-                                                    TABLES + 769u, 11u);
-                                                store32(a2 + 24u, n371);
-                                                n700 = load32(p952);
-                                                n895 = load32(a2 + 16u);
-                                                n39 = n895 + n371 + n700;
                                             }
-                                        L576:;
-                                            store32(frame + 4u, 0u);
-                                            n521 = n521 < n39 ? n39 : n521;
-                                            w353 = w353 - 1u;
-                                            store32(frame, n700);
-                                            n512 = n700 + n895 + n371;
-                                            goto L278;
+                                            store32(a2 + 32u, 0u);
+                                            const word p952 = a2 + 20u;
+                                            store32(p952, 0u);
+                                            n371 = 11u;
+                                            u32 n72;
+                                            if (n71 - n896 <= 10u) {
+                                                if (space_space_Space_try_reserve_without_index(a2, 11u) == 0u) {
+                                                    w344 = w635 - w353;
+                                                    w45 = w344 + w46;
+                                                    n62 = 2u;
+                                                    n699 = load32(a2 + 20u);
+                                                    n93 = n521;
+                                                    store16(a1 + 38u, 0u);
+                                                    store8(a1 + 37u, n62);
+                                                    store8(a1 + 36u, 1u);
+                                                    store32(a1 + 32u, n93);
+                                                    store64(a1 + 24u, w45);
+                                                    store32(a1 + 20u, 0u);
+                                                    store32(a1 + 16u, n699);
+                                                    store64(a1 + 8u, 0u);
+                                                    store64(a1, w344);
+                                                    return;
+                                                }
+                                                n371 = load32(a2 + 24u) + 11u;
+                                                p442 = load_word(a2);
+                                                n72 = load32(a2 + 28u);
+                                            } else {
+                                                n72 = n71;
+                                            }
+                                            space_byte_writing_write_many(((word)(n72 - n371) << 3) + p442, TABLES +
+                                                769u, 11u);
+                                            store32(a2 + 24u, n371);
+                                            n700 = load32(p952);
+                                            n895 = load32(a2 + 16u);
+                                            n39 = n895 + n371 + n700;
                                         }
-                                    L39:;
+                                    L576:;
+                                        store32(frame + 4u, 0u);
+                                        n521 = n521 < n39 ? n39 : n521;
+                                        w353 = w353 - 1u;
+                                        store32(frame, n700);
+                                        n512 = n700 + n895 + n371;
+                                        goto L278;
+                                    }
+                                L39:;
+                                    n699 = load32(a2 + 20u);
+                                    const u32 n513 = load32(a2 + 16u) + n699 + load32(a2 + 24u);
+                                    n93 = n521 < n513 ? n513 : n521;
+                                    w344 = w635 - w353;
+                                    w45 = w344 + w46;
+                                    n62 = load8(frame + 9u);
+                                    const u32 n437 = 1u << (n62 & 31u);
+                                    if ((n437 & 3u) == 0u) {
+                                        if ((n437 & 12u) == 0u) {
+                                            store16(a1 + 38u, 0u);
+                                            store8(a1 + 37u, n62);
+                                            store8(a1 + 36u, 1u);
+                                            store32(a1 + 32u, n93);
+                                            store64(a1 + 24u, w45);
+                                            store32(a1 + 20u, 0u);
+                                            store32(a1 + 16u, n699);
+                                            store64(a1 + 8u, 0u);
+                                            store64(a1, w344);
+                                            return;
+                                        }
                                         n699 = load32(a2 + 20u);
-                                        const u32 n513 = load32(a2 + 16u) + n699 + load32(a2 + 24u);
-                                        n93 = n521 < n513 ? n513 : n521;
-                                        w344 = w635 - w353;
-                                        w45 = w344 + w46;
-                                        n62 = load8(frame + 9u);
-                                        const u32 n437 = 1u << (n62 & 31u);
-                                        if ((n437 & 3u) == 0u) {
-                                            if ((n437 & 12u) == 0u) {
-                                                store16(a1 + 38u, 0u);
-                                                store8(a1 + 37u, n62);
-                                                store8(a1 + 36u, 1u);
-                                                store32(a1 + 32u, n93);
-                                                store64(a1 + 24u, w45);
-                                                store32(a1 + 20u, 0u);
-                                                store32(a1 + 16u, n699);
-                                                store64(a1 + 8u, 0u);
-                                                store64(a1, w344);
-                                                return;
-                                            }
-                                            goto L40;
-                                        }
-                                        w45 = w45 + 1u;
+                                        n93 = n521;
                                         store16(a1 + 38u, 0u);
                                         store8(a1 + 37u, n62);
                                         store8(a1 + 36u, 1u);
@@ -19419,12 +19821,22 @@ static void core_machine_advancing_go_on2(word a1, word a2, word a3, word a4, u6
                                         store64(a1, w344);
                                         return;
                                     }
-                                L895:;
-                                    w344 = w635 - w353;
-                                    w45 = w344 + w46;
-                                    n62 = 2u;
+                                    w45 = w45 + 1u;
+                                    store16(a1 + 38u, 0u);
+                                    store8(a1 + 37u, n62);
+                                    store8(a1 + 36u, 1u);
+                                    store32(a1 + 32u, n93);
+                                    store64(a1 + 24u, w45);
+                                    store32(a1 + 20u, 0u);
+                                    store32(a1 + 16u, n699);
+                                    store64(a1 + 8u, 0u);
+                                    store64(a1, w344);
+                                    return;
                                 }
-                            L40:;
+                            L895:;
+                                w344 = w635 - w353;
+                                w45 = w344 + w46;
+                                n62 = 2u;
                                 n699 = load32(a2 + 20u);
                                 n93 = n521;
                                 store16(a1 + 38u, 0u);
@@ -19492,7 +19904,7 @@ static void core_machine_advancing_go_on2(word a1, word a2, word a3, word a4, u6
 }
 #endif
 
-#if UNITS & 0x11
+#if UNITS & 0x5
 
 /* Where the mark stands of the call of no function that a step over these contents performs. */
 INTERNAL void core_machine_answering_unknown_call(word result, word work, u32 no_comma_from) {
@@ -19628,10 +20040,10 @@ static void core_machine_Machine_argument(word result, word self, u32 which) {
 }
 #endif
 
-#if UNITS & 0x11
+#if UNITS & 0x5
 
 /* How many bytes the innermost call prints. */
-INTERNAL u32 core_machine_printing_call_len(word work, u32 call_place, u32 call_no_comma_from) {
+static u32 core_machine_printing_call_len(word work, u32 call_place, u32 call_no_comma_from) {
     u64 room[12];
     const word frame = (word)room;
     u32 n75 = 0u;
@@ -19725,7 +20137,7 @@ INTERNAL u32 core_machine_printing_call_len(word work, u32 call_place, u32 call_
 }
 #endif
 
-#if UNITS & 0x3
+#if UNITS & 0x11
 
 /* The form whose name is these characters, a cell for each, to be looked at. */
 INTERNAL void core_machine_Machine_form_named(word result, word self, word name, u64 name_len) {
@@ -19739,105 +20151,44 @@ INTERNAL void core_machine_Machine_form_named(word result, word self, word name,
     u64 w71;
     u64 w72;
     u32 n216;
+    word p614;
+    word p605;
+    u32 n714;
+    u32 n435;
+    word p34;
+    word p35;
     do {
-        do {
-            word p54;
-            word p15;
+        word p54;
+        word p15;
+        {
             {
+                const u32 n870 = load32(self + 48u);
+                const u32 n465 = load32(self + 44u);
+                u32 n308 = load32(self + 40u);
+                store32(frame + 8u, 0u);
+                store64(frame, 0u);
                 {
-                    const u32 n870 = load32(self + 48u);
-                    const u32 n465 = load32(self + 44u);
-                    u32 n308 = load32(self + 40u);
-                    store32(frame + 8u, 0u);
-                    store64(frame, 0u);
-                    {
-                        if (n308 >= 12u) {
-                            store64(frame + 32u, 0u);
-                            store32(frame + 40u, 0u);
-                            store64(frame + 16u, 0u);
-                            store32(frame + 24u, 0u);
-                            w243 = load64(self);
-                            const u32 n633 = load32(self + 28u);
-                            const u64 w809 = load64(self + 8u);
-                            if ((u32)(word)w809 != n633) {
-                                const word p983 = n633;
-                                const word p617 = (p983 << 3) + (word)w243;
-                                const u64 w665 = (w809 - p983) >> 1;
-                                const u64 w736 = w665 & 9223372036854775806ull;
-                                if (name_len == 0u) {
-                                    if (w736 != 0u) {
-                                        const word p217 = (word)w665 & (word)2305843009213693950ull;
-                                        const word p861 = (word)w736 + (word)2305843009213693951ull;
-                                        u64 w73 = 0u;
-                                        do {
-                                            const word p19 = (((word)w73 & p861) << 3) + p617;
-                                            n42 = load8(p19);
-                                            if (n42 - 1u >= 3u) {
-                                                switch (n42 - 1u) {
-                                                case 0:
-                                                case 1:
-                                                case 2:
-                                                    goto L67;
-                                                case 3:
-                                                    break;
-                                                default:
-                                                    goto L653;
-                                                }
-                                                p54 = load32(p19 + 4u);
-                                                const word p422 = ((p54 + p217) << 3) + p617;
-                                                p15 = load8(p422) == 4u ? load32(p422 + 4u) : 0u;
-                                                if (load32((p15 << 3) + (word)w243 + 4u) == 0u)
-                                                    goto L128;
-                                            }
-                                            w73 = w73 + 1u;
-                                        } while (w73 != w736);
-                                        n42 = 0u;
-                                        break;
-                                    }
-                                    goto L131;
-                                }
-                                u64 w641 = (word)name_len & 3u;
-                                u64 w73 = 0u;
-                                word p394 = (word)name_len;
-                                do {
-                                    if (name_len - 1u >= 3u) {
-                                        u64 w394 = name_len & 18446744073709551612ull;
-                                        word p658 = ((word)name_len << 3) + name - 31u;
-                                        do {
-                                            const word p52 = load8(p658);
-                                            const word p968 = load8(p658 + 8u);
-                                            const word p436 = load8(p658 + 16u);
-                                            const word p988 = load8(p658 + 24u);
-                                            const u64 w389 = (((w73 + p988) * 11400714819323198485ull + p436) *
-                                                11400714819323198485ull + p968) * 11400714819323198485ull + p52;
-                                            w73 = w389 * 11400714819323198485ull;
-                                            p658 = p658 - 32u;
-                                            p394 = p394 - 4u;
-                                            w394 = w394 - 4u;
-                                        } while (w394 != 0u);
-                                        if (w641 == 0u)
-                                            break;
-                                    }
-                                    word p163 = (p394 << 3) + name - 7u;
+                    if (n308 >= 12u) {
+                        store64(frame + 32u, 0u);
+                        store32(frame + 40u, 0u);
+                        store64(frame + 16u, 0u);
+                        store32(frame + 24u, 0u);
+                        w243 = load64(self);
+                        const u32 n633 = load32(self + 28u);
+                        const u64 w809 = load64(self + 8u);
+                        if ((u32)(word)w809 != n633) {
+                            const word p983 = n633;
+                            const word p617 = (p983 << 3) + (word)w243;
+                            const u64 w665 = (w809 - p983) >> 1;
+                            const u64 w736 = w665 & 9223372036854775806ull;
+                            if (name_len == 0u) {
+                                if (w736 != 0u) {
+                                    const word p217 = (word)w665 & (word)2305843009213693950ull;
+                                    const word p861 = (word)w736 + (word)2305843009213693951ull;
+                                    u64 w73 = 0u;
                                     do {
-                                        w73 = (load8(p163) + w73) * 11400714819323198485ull;
-                                        p163 = p163 - 8u;
-                                        w641 = w641 - 1u;
-                                    } while (w641 != 0u);
-                                } while (0);
-                                if (w736 == 0u)
-                                    goto L131;
-                                const word p614 = (word)(w73 >> 32);
-                                const word p553 = (word)w243 + 25u;
-                                const word p671 = name + 1u;
-                                const word p217 = (word)w665 & (word)2305843009213693950ull;
-                                const word p861 = (word)w736 + (word)2305843009213693951ull;
-                                w68 = 0u;
-                                u64 w74 = 0u;
-                                do {
-                                    {
-                                        const word p546 = ((((word)w74 + p614) & p861) << 3) + p617;
-                                        n42 = load8(p546);
+                                        const word p19 = (((word)w73 & p861) << 3) + p617;
+                                        n42 = load8(p19);
                                         if (n42 - 1u >= 3u) {
                                             switch (n42 - 1u) {
                                             case 0:
@@ -19849,302 +20200,133 @@ INTERNAL void core_machine_Machine_form_named(word result, word self, word name,
                                             default:
                                                 goto L653;
                                             }
-                                            p54 = load32(p546 + 4u);
+                                            p54 = load32(p19 + 4u);
                                             const word p422 = ((p54 + p217) << 3) + p617;
                                             p15 = load8(p422) == 4u ? load32(p422 + 4u) : 0u;
-                                            const word p156 = p15 << 3;
-                                            if (load32(p156 + (word)w243 + 4u) == name_len) {
-                                                word p277 = p156 + p553;
-                                                word p672 = p671;
-                                                u64 w429 = name_len;
-                                                do {
-                                                    if (load8(p277) != load8(p672))
-                                                        goto L8;
-                                                    p277 = p277 + 8u;
-                                                    p672 = p672 + 8u;
-                                                    w429 = w429 - 1u;
-                                                } while (w429 != 0u);
+                                            if (load32((p15 << 3) + (word)w243 + 4u) == 0u)
                                                 goto L128;
-                                            }
                                         }
-                                    }
-                                L8:;
-                                    w74 = w74 + 1u;
-                                } while (w74 != w736);
-                                n42 = 0u;
-                                break;
-                            }
-                            u64 w73 = 0u;
-                            if (name_len == 0u) {
-                                for (;;) {
-                                    const word p605 = ((word)w73 << 3) + (word)w243;
-                                    const u32 n587 = load32(p605 + 4u);
-                                    if (n587) {
-                                        w73 = n587 + w73 + load32(p605 + 12u) + 3u;
-                                        n308 = n308 - 1u;
-                                        if (n308)
-                                            continue;
-                                        goto L131;
-                                    }
+                                        w73 = w73 + 1u;
+                                    } while (w73 != w736);
+                                    n42 = 0u;
                                     break;
                                 }
-                                w68 = w73 << 32;
-                                n42 = 1u;
-                                break;
+                                goto L131;
                             }
-                            store_form_cells_find_between_by_call(frame + 16u, (word)w243, n465, n870, n308, name,
-                                name_len);
-                            n42 = 1u;
-                            if (load8(frame + 16u) == 1u) {
-                                w68 = load64(frame + 20u);
-                                break;
-                            }
-                            store_form_cells_find_between_by_call(frame + 32u, (word)w243, 0u, 0u, n465, name,
-                                name_len);
-                            w68 = load64(frame + 36u);
-                            n42 = load8(frame + 32u);
-                            break;
-                        }
-                        w243 = load64(self);
-                        {
-                            word p68;
-                            u32 n81;
+                            u64 w641 = (word)name_len & 3u;
+                            u64 w73 = 0u;
+                            word p394 = (word)name_len;
+                            do {
+                                if (name_len - 1u >= 3u) {
+                                    u64 w394 = name_len & 18446744073709551612ull;
+                                    word p658 = ((word)name_len << 3) + name - 31u;
+                                    do {
+                                        const word p52 = load8(p658);
+                                        const word p968 = load8(p658 + 8u);
+                                        const word p436 = load8(p658 + 16u);
+                                        const word p988 = load8(p658 + 24u);
+                                        const u64 w389 = (((w73 + p988) * 11400714819323198485ull + p436) *
+                                            11400714819323198485ull + p968) * 11400714819323198485ull + p52;
+                                        w73 = w389 * 11400714819323198485ull;
+                                        p658 = p658 - 32u;
+                                        p394 = p394 - 4u;
+                                        w394 = w394 - 4u;
+                                    } while (w394 != 0u);
+                                    if (w641 == 0u)
+                                        break;
+                                }
+                                word p163 = (p394 << 3) + name - 7u;
+                                do {
+                                    w73 = (load8(p163) + w73) * 11400714819323198485ull;
+                                    p163 = p163 - 8u;
+                                    w641 = w641 - 1u;
+                                } while (w641 != 0u);
+                            } while (0);
+                            if (w736 == 0u)
+                                goto L131;
+                            const word p615 = (word)(w73 >> 32);
+                            const word p553 = (word)w243 + 25u;
+                            const word p671 = name + 1u;
+                            const word p217 = (word)w665 & (word)2305843009213693950ull;
+                            const word p861 = (word)w736 + (word)2305843009213693951ull;
+                            w68 = 0u;
+                            u64 w74 = 0u;
                             do {
                                 {
-                                    if (name_len == 0u) {
-                                        if (n308 != 0u) {
-                                            u32 n217 = 0u;
-                                            word p69 = 0u;
-                                            do {
-                                                const word p605 = (p69 << 3) + (word)w243;
-                                                const u32 n587 = load32(p605 + 4u);
-                                                if (n587 == 0u) {
-                                                    store32(frame + 8u, (u32)p69);
-                                                    store32(frame + 4u, n217);
-                                                    goto L218;
-                                                }
-                                                p69 = n587 + p69 + load32(p605 + 12u) + 3u;
-                                                n217 = n217 + 1u;
-                                            } while (n308 != n217);
-                                        }
-                                    } else {
-                                        u32 n898;
-                                        word p82;
-                                        word p619;
-                                        word p858;
-                                        do {
-                                            if (n308 <= 7u) {
-                                                if (n308 == 0u)
-                                                    goto L28;
-                                                n898 = load8(((word)name_len << 3) + name - 7u);
-                                                word p812;
-                                                {
-                                                    p812 = load32((word)w243 + 4u);
-                                                    if (name_len == p812) {
-                                                        if (load8(((word)name_len << 3) + (word)w243 + 17u) == (n898
-                                                            & 255u)) {
-                                                            word p553 = (word)w243 + 25u;
-                                                            word p671 = name + 1u;
-                                                            u64 w429 = name_len;
-                                                            while (load8(p553) == load8(p671)) {
-                                                                p553 = p553 + 8u;
-                                                                p671 = p671 + 8u;
-                                                                w429 = w429 - 1u;
-                                                                if (w429 == 0u) {
-                                                                p68 = 0u;
-                                                                n81 = n308;
-                                                                goto L290;
-                                                                }
-                                                            }
-                                                        }
-                                                    }
-                                                }
-                                                n81 = n308 - 1u;
-                                                if (n81 == 0u)
-                                                    goto L28;
-                                                p82 = load32((word)w243 + 12u) + p812;
-                                                p619 = p82 + 6u;
-                                                p68 = p619 - 3u;
-                                                p858 = load32((p68 << 3) + (word)w243 + 4u);
-                                                if (p858 != name_len)
-                                                    break;
-                                                const u32 n354 = load8(((p619 + (word)name_len) << 3) + (word)w243 -
-                                                    7u);
-                                                if ((n898 & 255u) != n354)
-                                                    break;
-                                                word p671 = name + 1u;
-                                                word p565 = (p82 << 3) + (word)w243 + 49u;
-                                                u64 w429 = name_len;
-                                                do {
-                                                    if (load8(p565) != load8(p671))
-                                                        goto L105;
-                                                    p565 = p565 + 8u;
-                                                    p671 = p671 + 8u;
-                                                    w429 = w429 - 1u;
-                                                } while (w429 != 0u);
-                                                goto L290;
-                                            }
-                                            store_form_cells_find_from_last(frame, (word)w243, n465, n870, n308,
-                                                name, name_len);
-                                            n42 = load8(frame);
-                                            w68 = load64(frame + 4u);
+                                    const word p546 = ((((word)w74 + p615) & p861) << 3) + p617;
+                                    n42 = load8(p546);
+                                    if (n42 - 1u >= 3u) {
+                                        switch (n42 - 1u) {
+                                        case 0:
+                                        case 1:
+                                        case 2:
+                                            goto L67;
+                                        case 3:
+                                            break;
+                                        default:
                                             goto L653;
-                                        } while (0);
-                                    L105:;
-                                        n81 = n308 - 2u;
-                                        if (n81 != 0u) {
-                                            word p971;
-                                            word p422;
-                                            word p859;
-                                            {
-                                                p971 = load32((p619 << 3) + (word)w243 - 12u);
-                                                p422 = p619 + p858 + p971 + 3u;
-                                                p68 = p422 - 3u;
-                                                p859 = load32((p68 << 3) + (word)w243 + 4u);
-                                                if (p859 == name_len) {
-                                                    const u32 n32 = load8(((p422 + (word)name_len) << 3) +
-                                                        (word)w243 - 7u);
-                                                    if ((n898 & 255u) == n32) {
-                                                        word p671 = name + 1u;
-                                                        word p327 = ((p858 + p82 + p971) << 3) + (word)w243 + 73u;
-                                                        u64 w429 = name_len;
-                                                        do {
-                                                            if (load8(p327) != load8(p671))
-                                                                goto L607;
-                                                            p327 = p327 + 8u;
-                                                            p671 = p671 + 8u;
-                                                            w429 = w429 - 1u;
-                                                        } while (w429 != 0u);
-                                                        break;
-                                                    }
-                                                }
-                                            }
-                                        L607:;
-                                            n81 = n308 - 3u;
-                                            if (n81 != 0u) {
-                                                word p140;
-                                                word p474;
-                                                word p860;
-                                                {
-                                                    p140 = load32((p422 << 3) + (word)w243 - 12u);
-                                                    p474 = p859 + p422 + p140 + 3u;
-                                                    p68 = p474 - 3u;
-                                                    p860 = load32((p68 << 3) + (word)w243 + 4u);
-                                                    if (p860 == name_len) {
-                                                        const u32 n280 = load8(((p474 + (word)name_len) << 3) +
-                                                            (word)w243 - 7u);
-                                                        if ((n898 & 255u) == n280) {
-                                                            word p671 = name + 1u;
-                                                            const word p846 = ((p858 + p82 + p971 + p859 + p140) <<
-                                                                3) + (word)w243 + 97u;
-                                                            word p396 = p846;
-                                                            u64 w429 = name_len;
-                                                            do {
-                                                                if (load8(p396) != load8(p671))
-                                                                goto L298;
-                                                                p396 = p396 + 8u;
-                                                                p671 = p671 + 8u;
-                                                                w429 = w429 - 1u;
-                                                            } while (w429 != 0u);
-                                                            break;
-                                                        }
-                                                    }
-                                                }
-                                            L298:;
-                                                n81 = n308 - 4u;
-                                                if (n81 != 0u) {
-                                                    word p109;
-                                                    word p39;
-                                                    word p861;
-                                                    {
-                                                        p109 = load32((p474 << 3) + (word)w243 - 12u);
-                                                        p39 = p860 + p474 + p109 + 3u;
-                                                        p68 = p39 - 3u;
-                                                        p861 = load32((p68 << 3) + (word)w243 + 4u);
-                                                        if (p861 == name_len) {
-                                                            const u32 n280 = load8(((p39 + (word)name_len) << 3) +
-                                                                (word)w243 - 7u);
-                                                            if ((n898 & 255u) == n280) {
-                                                                word p671 = name + 1u;
-                                                                const word p902 = (p858 + p82 + p971 + p859 + p140 +
-                                                                    p860 + p109) << 3;
-                                                                word p512 = (word)w243 + p902 + 121u;
-                                                                u64 w429 = name_len;
-                                                                do {
-                                                                if (load8(p512) != load8(p671))
-                                                                goto L50;
-                                                                p512 = p512 + 8u;
-                                                                p671 = p671 + 8u;
-                                                                w429 = w429 - 1u;
-                                                                } while (w429 != 0u);
-                                                                break;
-                                                            }
-                                                        }
-                                                    }
-                                                L50:;
-                                                    n81 = n308 - 5u;
-                                                    if (n81 != 0u) {
-                                                        word p110;
-                                                        word p40;
-                                                        word p862;
-                                                        {
-                                                            p110 = load32((p39 << 3) + (word)w243 - 12u);
-                                                            p40 = p861 + p39 + p110 + 3u;
-                                                            p68 = p40 - 3u;
-                                                            p862 = load32((p68 << 3) + (word)w243 + 4u);
-                                                            if (p862 == name_len) {
-                                                                const u32 n280 = load8(((p40 + (word)name_len) << 3)
-                                                                    + (word)w243 - 7u);
-                                                                if ((n898 & 255u) == n280) {
-                                                                word p671 = name + 1u;
-                                                                const word p665 = p858 + p82 + p971 + p859 + p140 +
-                                                                    p860 + p109 + p861;
-                                                                word p759 = ((p110 + p665) << 3) + (word)w243 + 145u;
-                                                                u64 w429 = name_len;
-                                                                do {
-                                                                if (load8(p759) != load8(p671))
-                                                                goto L598;
-                                                                p759 = p759 + 8u;
-                                                                p671 = p671 + 8u;
-                                                                w429 = w429 - 1u;
-                                                                } while (w429 != 0u);
-                                                                break;
-                                                                }
-                                                            }
-                                                        }
-                                                    L598:;
-                                                        n81 = n308 - 6u;
-                                                        if (n81 != 0u) {
-                                                            const word p111 = load32((p40 << 3) + (word)w243 - 12u);
-                                                            const word p41 = p862 + p40 + p111 + 3u;
-                                                            p68 = p41 - 3u;
-                                                            if (load32((p68 << 3) + (word)w243 + 4u) == name_len) {
-                                                                const u32 n280 = load8(((p41 + (word)name_len) << 3)
-                                                                    + (word)w243 - 7u);
-                                                                if ((n898 & 255u) == n280) {
-                                                                word p671 = name + 1u;
-                                                                const word p665 = p858 + p82 + p971 + p859 + p140 +
-                                                                    p860 + p109 + p861;
-                                                                word p759 = ((p110 + p665 + p862 + p111) << 3) +
-                                                                    (word)w243 + 169u;
-                                                                do {
-                                                                if (load8(p759) != load8(p671))
-                                                                goto L28;
-                                                                p759 = p759 + 8u;
-                                                                p671 = p671 + 8u;
-                                                                name_len = name_len - 1u;
-                                                                } while (name_len != 0u);
-                                                                break;
-                                                                }
-                                                            }
-                                                        }
-                                                    }
-                                                }
-                                            }
+                                        }
+                                        p54 = load32(p546 + 4u);
+                                        const word p422 = ((p54 + p217) << 3) + p617;
+                                        p15 = load8(p422) == 4u ? load32(p422 + 4u) : 0u;
+                                        const word p156 = p15 << 3;
+                                        if (load32(p156 + (word)w243 + 4u) == name_len) {
+                                            word p277 = p156 + p553;
+                                            word p672 = p671;
+                                            u64 w429 = name_len;
+                                            do {
+                                                if (load8(p277) != load8(p672))
+                                                    goto L8;
+                                                p277 = p277 + 8u;
+                                                p672 = p672 + 8u;
+                                                w429 = w429 - 1u;
+                                            } while (w429 != 0u);
+                                            goto L128;
                                         }
                                     }
                                 }
-                            L28:;
+                            L8:;
+                                w74 = w74 + 1u;
+                            } while (w74 != w736);
+                            n42 = 0u;
+                            break;
+                        }
+                        u64 w73 = 0u;
+                        if (name_len == 0u) {
+                            for (;;) {
+                                const word p606 = ((word)w73 << 3) + (word)w243;
+                                const u32 n587 = load32(p606 + 4u);
+                                if (n587) {
+                                    w73 = n587 + w73 + load32(p606 + 12u) + 3u;
+                                    n308 = n308 - 1u;
+                                    if (n308)
+                                        continue;
+                                    goto L131;
+                                }
+                                break;
+                            }
+                            w68 = w73 << 32;
+                            n42 = 1u;
+                            break;
+                        }
+                        store_form_cells_find_between_by_call(frame + 16u, (word)w243, n465, n870, n308, name,
+                            name_len);
+                        n42 = 1u;
+                        if (load8(frame + 16u) == 1u) {
+                            w68 = load64(frame + 20u);
+                            break;
+                        }
+                        store_form_cells_find_between_by_call(frame + 32u, (word)w243, 0u, 0u, n465, name, name_len);
+                        w68 = load64(frame + 36u);
+                        n42 = load8(frame + 32u);
+                        break;
+                    }
+                    w243 = load64(self);
+                    word p68;
+                    u32 n81;
+                    do {
+                        if (name_len == 0u) {
+                            if (n308 == 0u) {
                                 n42 = 0u;
                                 w69 = 0u;
                                 w70 = 0u;
@@ -20159,57 +20341,461 @@ INTERNAL void core_machine_Machine_form_named(word result, word self, word name,
                                 store64(result + 8u, w69);
                                 store64(result, (word)n42 & 255u);
                                 return;
-                            } while (0);
-                        L290:;
-                            store32(frame + 8u, (u32)p68);
-                            store32(frame + 4u, n308 - n81);
+                            }
+                            u32 n217 = 0u;
+                            word p69 = 0u;
+                            do {
+                                const word p606 = (p69 << 3) + (word)w243;
+                                const u32 n587 = load32(p606 + 4u);
+                                if (n587 == 0u) {
+                                    store32(frame + 8u, (u32)p69);
+                                    store32(frame + 4u, n217);
+                                    w68 = load64(frame + 4u);
+                                    p614 = (word)(w68 >> 32);
+                                    p605 = (p614 << 3) + (word)w243;
+                                    n714 = (u32)p614 + 3u;
+                                    n435 = load32(p605 + 4u) + n714;
+                                    p34 = n435;
+                                    w72 = (u64)(load32(p605 + 12u) + n435) - p34;
+                                    p35 = n714;
+                                    w70 = (u64)p34 - p35;
+                                    w71 = ((u64)p34 << 3) + w243;
+                                    w69 = ((u64)p35 << 3) + w243;
+                                    n42 = 1u;
+                                    n216 = load32(p605 + 20u);
+                                    store32(result + 44u, 0u);
+                                    store32(result + 40u, n216);
+                                    store64(result + 32u, w72);
+                                    store64(result + 24u, w71);
+                                    store64(result + 16u, w70);
+                                    store64(result + 8u, w69);
+                                    store64(result, (word)n42 & 255u);
+                                    return;
+                                }
+                                p69 = n587 + p69 + load32(p606 + 12u) + 3u;
+                                n217 = n217 + 1u;
+                            } while (n308 != n217);
+                            n42 = 0u;
+                            w69 = 0u;
+                            w70 = 0u;
+                            w71 = 0u;
+                            w72 = 0u;
+                            n216 = 0u;
+                            store32(result + 44u, 0u);
+                            store32(result + 40u, n216);
+                            store64(result + 32u, w72);
+                            store64(result + 24u, w71);
+                            store64(result + 16u, w70);
+                            store64(result + 8u, w69);
+                            store64(result, (word)n42 & 255u);
+                            return;
                         }
-                    L218:;
-                        w68 = load64(frame + 4u);
-                        goto L675;
-                    }
-                L131:;
-                    w68 = 0u;
-                    n42 = 0u;
-                    break;
+                        u32 n898;
+                        word p82;
+                        word p619;
+                        word p858;
+                        do {
+                            if (n308 <= 7u) {
+                                if (n308 == 0u) {
+                                    n42 = 0u;
+                                    w69 = 0u;
+                                    w70 = 0u;
+                                    w71 = 0u;
+                                    w72 = 0u;
+                                    n216 = 0u;
+                                    store32(result + 44u, 0u);
+                                    store32(result + 40u, n216);
+                                    store64(result + 32u, w72);
+                                    store64(result + 24u, w71);
+                                    store64(result + 16u, w70);
+                                    store64(result + 8u, w69);
+                                    store64(result, (word)n42 & 255u);
+                                    return;
+                                }
+                                n898 = load8(((word)name_len << 3) + name - 7u);
+                                word p812;
+                                {
+                                    p812 = load32((word)w243 + 4u);
+                                    if (name_len == p812) {
+                                        if (load8(((word)name_len << 3) + (word)w243 + 17u) == (n898 & 255u)) {
+                                            word p553 = (word)w243 + 25u;
+                                            word p671 = name + 1u;
+                                            u64 w429 = name_len;
+                                            while (load8(p553) == load8(p671)) {
+                                                p553 = p553 + 8u;
+                                                p671 = p671 + 8u;
+                                                w429 = w429 - 1u;
+                                                if (w429 == 0u) {
+                                                    p68 = 0u;
+                                                    n81 = n308;
+                                                    goto L290;
+                                                }
+                                            }
+                                        }
+                                    }
+                                }
+                                n81 = n308 - 1u;
+                                if (n81 == 0u) {
+                                    n42 = 0u;
+                                    w69 = 0u;
+                                    w70 = 0u;
+                                    w71 = 0u;
+                                    w72 = 0u;
+                                    n216 = 0u;
+                                    store32(result + 44u, 0u);
+                                    store32(result + 40u, n216);
+                                    store64(result + 32u, w72);
+                                    store64(result + 24u, w71);
+                                    store64(result + 16u, w70);
+                                    store64(result + 8u, w69);
+                                    store64(result, (word)n42 & 255u);
+                                    return;
+                                }
+                                p82 = load32((word)w243 + 12u) + p812;
+                                p619 = p82 + 6u;
+                                p68 = p619 - 3u;
+                                p858 = load32((p68 << 3) + (word)w243 + 4u);
+                                if (p858 != name_len)
+                                    break;
+                                const u32 n354 = load8(((p619 + (word)name_len) << 3) + (word)w243 - 7u);
+                                if ((n898 & 255u) != n354)
+                                    break;
+                                word p671 = name + 1u;
+                                word p565 = (p82 << 3) + (word)w243 + 49u;
+                                u64 w429 = name_len;
+                                do {
+                                    if (load8(p565) != load8(p671))
+                                        goto L105;
+                                    p565 = p565 + 8u;
+                                    p671 = p671 + 8u;
+                                    w429 = w429 - 1u;
+                                } while (w429 != 0u);
+                                goto L290;
+                            }
+                            store_form_cells_find_from_last(frame, (word)w243, n465, n870, n308, name, name_len);
+                            n42 = load8(frame);
+                            w68 = load64(frame + 4u);
+                            goto L653;
+                        } while (0);
+                    L105:;
+                        n81 = n308 - 2u;
+                        if (n81 == 0u) {
+                            n42 = 0u;
+                            w69 = 0u;
+                            w70 = 0u;
+                            w71 = 0u;
+                            w72 = 0u;
+                            n216 = 0u;
+                            store32(result + 44u, 0u);
+                            store32(result + 40u, n216);
+                            store64(result + 32u, w72);
+                            store64(result + 24u, w71);
+                            store64(result + 16u, w70);
+                            store64(result + 8u, w69);
+                            store64(result, (word)n42 & 255u);
+                            return;
+                        }
+                        word p971;
+                        word p422;
+                        word p859;
+                        {
+                            p971 = load32((p619 << 3) + (word)w243 - 12u);
+                            p422 = p619 + p858 + p971 + 3u;
+                            p68 = p422 - 3u;
+                            p859 = load32((p68 << 3) + (word)w243 + 4u);
+                            if (p859 == name_len) {
+                                const u32 n32 = load8(((p422 + (word)name_len) << 3) + (word)w243 - 7u);
+                                if ((n898 & 255u) == n32) {
+                                    word p671 = name + 1u;
+                                    word p327 = ((p858 + p82 + p971) << 3) + (word)w243 + 73u;
+                                    u64 w429 = name_len;
+                                    do {
+                                        if (load8(p327) != load8(p671))
+                                            goto L607;
+                                        p327 = p327 + 8u;
+                                        p671 = p671 + 8u;
+                                        w429 = w429 - 1u;
+                                    } while (w429 != 0u);
+                                    break;
+                                }
+                            }
+                        }
+                    L607:;
+                        n81 = n308 - 3u;
+                        if (n81 == 0u) {
+                            n42 = 0u;
+                            w69 = 0u;
+                            w70 = 0u;
+                            w71 = 0u;
+                            w72 = 0u;
+                            n216 = 0u;
+                            store32(result + 44u, 0u);
+                            store32(result + 40u, n216);
+                            store64(result + 32u, w72);
+                            store64(result + 24u, w71);
+                            store64(result + 16u, w70);
+                            store64(result + 8u, w69);
+                            store64(result, (word)n42 & 255u);
+                            return;
+                        }
+                        word p140;
+                        word p474;
+                        word p860;
+                        {
+                            p140 = load32((p422 << 3) + (word)w243 - 12u);
+                            p474 = p859 + p422 + p140 + 3u;
+                            p68 = p474 - 3u;
+                            p860 = load32((p68 << 3) + (word)w243 + 4u);
+                            if (p860 == name_len) {
+                                const u32 n280 = load8(((p474 + (word)name_len) << 3) + (word)w243 - 7u);
+                                if ((n898 & 255u) == n280) {
+                                    word p671 = name + 1u;
+                                    const word p846 = ((p858 + p82 + p971 + p859 + p140) << 3) + (word)w243 + 97u;
+                                    word p396 = p846;
+                                    u64 w429 = name_len;
+                                    do {
+                                        if (load8(p396) != load8(p671))
+                                            goto L298;
+                                        p396 = p396 + 8u;
+                                        p671 = p671 + 8u;
+                                        w429 = w429 - 1u;
+                                    } while (w429 != 0u);
+                                    break;
+                                }
+                            }
+                        }
+                    L298:;
+                        n81 = n308 - 4u;
+                        if (n81 == 0u) {
+                            n42 = 0u;
+                            w69 = 0u;
+                            w70 = 0u;
+                            w71 = 0u;
+                            w72 = 0u;
+                            n216 = 0u;
+                            store32(result + 44u, 0u);
+                            store32(result + 40u, n216);
+                            store64(result + 32u, w72);
+                            store64(result + 24u, w71);
+                            store64(result + 16u, w70);
+                            store64(result + 8u, w69);
+                            store64(result, (word)n42 & 255u);
+                            return;
+                        }
+                        word p109;
+                        word p39;
+                        word p861;
+                        {
+                            p109 = load32((p474 << 3) + (word)w243 - 12u);
+                            p39 = p860 + p474 + p109 + 3u;
+                            p68 = p39 - 3u;
+                            p861 = load32((p68 << 3) + (word)w243 + 4u);
+                            if (p861 == name_len) {
+                                const u32 n280 = load8(((p39 + (word)name_len) << 3) + (word)w243 - 7u);
+                                if ((n898 & 255u) == n280) {
+                                    word p671 = name + 1u;
+                                    const word p902 = (p858 + p82 + p971 + p859 + p140 + p860 + p109) << 3;
+                                    word p512 = (word)w243 + p902 + 121u;
+                                    u64 w429 = name_len;
+                                    do {
+                                        if (load8(p512) != load8(p671))
+                                            goto L50;
+                                        p512 = p512 + 8u;
+                                        p671 = p671 + 8u;
+                                        w429 = w429 - 1u;
+                                    } while (w429 != 0u);
+                                    break;
+                                }
+                            }
+                        }
+                    L50:;
+                        n81 = n308 - 5u;
+                        if (n81 == 0u) {
+                            n42 = 0u;
+                            w69 = 0u;
+                            w70 = 0u;
+                            w71 = 0u;
+                            w72 = 0u;
+                            n216 = 0u;
+                            store32(result + 44u, 0u);
+                            store32(result + 40u, n216);
+                            store64(result + 32u, w72);
+                            store64(result + 24u, w71);
+                            store64(result + 16u, w70);
+                            store64(result + 8u, w69);
+                            store64(result, (word)n42 & 255u);
+                            return;
+                        }
+                        word p110;
+                        word p40;
+                        word p862;
+                        {
+                            p110 = load32((p39 << 3) + (word)w243 - 12u);
+                            p40 = p861 + p39 + p110 + 3u;
+                            p68 = p40 - 3u;
+                            p862 = load32((p68 << 3) + (word)w243 + 4u);
+                            if (p862 == name_len) {
+                                const u32 n280 = load8(((p40 + (word)name_len) << 3) + (word)w243 - 7u);
+                                if ((n898 & 255u) == n280) {
+                                    word p671 = name + 1u;
+                                    const word p665 = p858 + p82 + p971 + p859 + p140 + p860 + p109 + p861;
+                                    word p759 = ((p110 + p665) << 3) + (word)w243 + 145u;
+                                    u64 w429 = name_len;
+                                    do {
+                                        if (load8(p759) != load8(p671))
+                                            goto L598;
+                                        p759 = p759 + 8u;
+                                        p671 = p671 + 8u;
+                                        w429 = w429 - 1u;
+                                    } while (w429 != 0u);
+                                    break;
+                                }
+                            }
+                        }
+                    L598:;
+                        n81 = n308 - 6u;
+                        if (n81 == 0u) {
+                            n42 = 0u;
+                            w69 = 0u;
+                            w70 = 0u;
+                            w71 = 0u;
+                            w72 = 0u;
+                            n216 = 0u;
+                            store32(result + 44u, 0u);
+                            store32(result + 40u, n216);
+                            store64(result + 32u, w72);
+                            store64(result + 24u, w71);
+                            store64(result + 16u, w70);
+                            store64(result + 8u, w69);
+                            store64(result, (word)n42 & 255u);
+                            return;
+                        }
+                        const word p111 = load32((p40 << 3) + (word)w243 - 12u);
+                        const word p41 = p862 + p40 + p111 + 3u;
+                        p68 = p41 - 3u;
+                        if (load32((p68 << 3) + (word)w243 + 4u) != name_len) {
+                            n42 = 0u;
+                            w69 = 0u;
+                            w70 = 0u;
+                            w71 = 0u;
+                            w72 = 0u;
+                            n216 = 0u;
+                            store32(result + 44u, 0u);
+                            store32(result + 40u, n216);
+                            store64(result + 32u, w72);
+                            store64(result + 24u, w71);
+                            store64(result + 16u, w70);
+                            store64(result + 8u, w69);
+                            store64(result, (word)n42 & 255u);
+                            return;
+                        }
+                        const u32 n280 = load8(((p41 + (word)name_len) << 3) + (word)w243 - 7u);
+                        if ((n898 & 255u) != n280) {
+                            n42 = 0u;
+                            w69 = 0u;
+                            w70 = 0u;
+                            w71 = 0u;
+                            w72 = 0u;
+                            n216 = 0u;
+                            store32(result + 44u, 0u);
+                            store32(result + 40u, n216);
+                            store64(result + 32u, w72);
+                            store64(result + 24u, w71);
+                            store64(result + 16u, w70);
+                            store64(result + 8u, w69);
+                            store64(result, (word)n42 & 255u);
+                            return;
+                        }
+                        word p671 = name + 1u;
+                        const word p665 = p858 + p82 + p971 + p859 + p140 + p860 + p109 + p861;
+                        word p759 = ((p110 + p665 + p862 + p111) << 3) + (word)w243 + 169u;
+                        do {
+                            if (load8(p759) != load8(p671)) {
+                                n42 = 0u;
+                                w69 = 0u;
+                                w70 = 0u;
+                                w71 = 0u;
+                                w72 = 0u;
+                                n216 = 0u;
+                                store32(result + 44u, 0u);
+                                store32(result + 40u, n216);
+                                store64(result + 32u, w72);
+                                store64(result + 24u, w71);
+                                store64(result + 16u, w70);
+                                store64(result + 8u, w69);
+                                store64(result, (word)n42 & 255u);
+                                return;
+                            }
+                            p759 = p759 + 8u;
+                            p671 = p671 + 8u;
+                            name_len = name_len - 1u;
+                        } while (name_len != 0u);
+                    } while (0);
+                L290:;
+                    store32(frame + 8u, (u32)p68);
+                    store32(frame + 4u, n308 - n81);
+                    w68 = load64(frame + 4u);
+                    p614 = (word)(w68 >> 32);
+                    p605 = (p614 << 3) + (word)w243;
+                    n714 = (u32)p614 + 3u;
+                    n435 = load32(p605 + 4u) + n714;
+                    p34 = n435;
+                    w72 = (u64)(load32(p605 + 12u) + n435) - p34;
+                    p35 = n714;
+                    w70 = (u64)p34 - p35;
+                    w71 = ((u64)p34 << 3) + w243;
+                    w69 = ((u64)p35 << 3) + w243;
+                    n42 = 1u;
+                    n216 = load32(p605 + 20u);
+                    store32(result + 44u, 0u);
+                    store32(result + 40u, n216);
+                    store64(result + 32u, w72);
+                    store64(result + 24u, w71);
+                    store64(result + 16u, w70);
+                    store64(result + 8u, w69);
+                    store64(result, (word)n42 & 255u);
+                    return;
                 }
-            L67:;
-                trap();
+            L131:;
+                w68 = 0u;
+                n42 = 0u;
+                break;
             }
-        L128:;
-            w68 = ((u64)p15 << 32) | p54;
-            n42 = 1u;
-        } while (0);
-    L653:;
-        if ((n42 & 255u) != 1u) {
-            w72 = 0u;
-            w69 = 0u;
-            w70 = 0u;
-            w71 = 0u;
-            n216 = 0u;
-            store32(result + 44u, 0u);
-            store32(result + 40u, n216);
-            store64(result + 32u, w72);
-            store64(result + 24u, w71);
-            store64(result + 16u, w70);
-            store64(result + 8u, w69);
-            store64(result, (word)n42 & 255u);
-            return;
+        L67:;
+            trap();
         }
+    L128:;
+        w68 = ((u64)p15 << 32) | p54;
+        n42 = 1u;
     } while (0);
-L675:;
-    const word p614 = (word)(w68 >> 32);
-    const word p528 = (p614 << 3) + (word)w243;
-    const u32 n468 = (u32)p614 + 3u;
-    const u32 n115 = load32(p528 + 4u) + n468;
-    const word p2 = n115;
-    w72 = (u64)(load32(p528 + 12u) + n115) - p2;
-    const word p319 = n468;
-    w70 = (u64)p2 - p319;
-    w71 = ((u64)p2 << 3) + w243;
-    w69 = ((u64)p319 << 3) + w243;
+L653:;
+    if ((n42 & 255u) != 1u) {
+        w72 = 0u;
+        w69 = 0u;
+        w70 = 0u;
+        w71 = 0u;
+        n216 = 0u;
+        store32(result + 44u, 0u);
+        store32(result + 40u, n216);
+        store64(result + 32u, w72);
+        store64(result + 24u, w71);
+        store64(result + 16u, w70);
+        store64(result + 8u, w69);
+        store64(result, (word)n42 & 255u);
+        return;
+    }
+    p614 = (word)(w68 >> 32);
+    p605 = (p614 << 3) + (word)w243;
+    n714 = (u32)p614 + 3u;
+    n435 = load32(p605 + 4u) + n714;
+    p34 = n435;
+    w72 = (u64)(load32(p605 + 12u) + n435) - p34;
+    p35 = n714;
+    w70 = (u64)p34 - p35;
+    w71 = ((u64)p34 << 3) + w243;
+    w69 = ((u64)p35 << 3) + w243;
     n42 = 1u;
-    n216 = load32(p528 + 20u);
+    n216 = load32(p605 + 20u);
     store32(result + 44u, 0u);
     store32(result + 40u, n216);
     store64(result + 32u, w72);
@@ -20220,7 +20806,7 @@ L675:;
 }
 #endif
 
-#if UNITS & 0x11
+#if UNITS & 0x5
 
 /* The function that the next step performs. */
 INTERNAL void core_machine_Machine_next_function(word result, word self) {
@@ -20283,7 +20869,7 @@ INTERNAL void core_machine_Machine_next_function(word result, word self) {
 }
 #endif
 
-#if UNITS & 0xc2
+#if UNITS & 0xa2
 
 /* The rule that the next step follows, unless the run is over or ends before it. */
 static INLINE u32 core_machine_Machine_next_rule(word self) {
@@ -20340,7 +20926,7 @@ static INLINE u32 core_machine_Machine_next_rule(word self) {
 }
 #endif
 
-#if UNITS & 0x4
+#if UNITS & 0x8
 
 /* The active string is empty, and there is room for `begin_idling`. */
 INTERNAL void core_read_in_place_read_in_place(word result, word work, u64 most, u32 meta, word source) {
@@ -20427,12 +21013,9 @@ INTERNAL void core_read_in_place_read_in_place(word result, word work, u64 most,
     store16(result, load16(frame + 8u));
     store32(result + 4u, load32(frame + 12u));
 }
-#endif
-
-#if UNITS & 0x10
 
 /* The string was read, and the call of `rs` is done: */
-INTERNAL void core_read_in_place_scan_string(word result, word work, u64 most) {
+static void core_read_in_place_scan_string(word result, word work, u64 most) {
     const word p300 = work + 24u;
     const u32 n588 = load32(p300);
     store32(p300, n588 - 3u);
@@ -20660,7 +21243,7 @@ INTERNAL void core_read_in_place_scan_string(word result, word work, u64 most) {
 }
 #endif
 
-#if UNITS & 0x11
+#if UNITS & 0x19
 
 /* How many ordinary characters begin the cells, of which these are some. */
 static INLINE u32 core_runs_ordinary_run(word cells, u64 cells_len, u64 known) {
@@ -20728,6 +21311,9 @@ L397:;
     known = cells_len;
     return (u32)(word)known;
 }
+#endif
+
+#if UNITS & 0x11
 
 /* Where the right parenthesis stands that matches a left one before the cells. */
 INTERNAL void core_runs_matching(word result, word cells, u64 cells_len) {
@@ -20988,22 +21574,45 @@ INTERNAL void core_scan_scan_once(word result, word work, u32 no_comma_from) {
     case 26:
     {
         const u64 w594 = (u64)n374 - p667;
-        if (w594 < 2u)
-            goto L647;
+        word p50;
+        u32 n184;
+        word p131;
+        u32 n185;
+        word p775;
+        if (w594 < 2u) {
+            store32(work + 24u, n588 - 1u);
+            p50 = work + 32u;
+            n184 = load32(p50);
+            p131 = work + 20u;
+            n185 = load32(p131);
+            p775 = ((word)(load32(work + 16u) + n185) << 3) + p968;
+            store16(p775, 8960u);
+            n212 = 0u;
+            store32(p775 + 4u, 0u);
+            store32(p131, n185 + 1u);
+            store32(p50, n184);
+            w19 = 1u;
+            w68 = w19;
+            n91 = 0u;
+            store32(result, n212);
+            store64(result + 8u, n212 ? w68 : 0u);
+            store32(result + 4u, n212 ? n91 : 0u);
+            return;
+        }
         const u32 n506 = load8(p616 + 9u);
         if (n506 == 40u) {
             store32(work + 24u, n588 - 2u);
-            const word p50 = work + 32u;
-            const u32 n380 = load32(p50);
-            const word p131 = work + 20u;
-            const u32 n864 = load32(p131);
+            const word p51 = work + 32u;
+            const u32 n380 = load32(p51);
+            const word p132 = work + 20u;
+            const u32 n864 = load32(p132);
             const word p776 = ((word)(load32(work + 16u) + n864) << 3) + p968;
             store16(p776, 1u);
             n212 = 0u;
             const u32 n402 = n864 + 1u;
             store32(p776 + 4u, n380 ? n402 - n380 : 0u);
-            store32(p131, n402);
-            store32(p50, n402);
+            store32(p132, n402);
+            store32(p51, n402);
             w19 = core_scan_add_run_within() + 1u;
             w68 = w19;
             n91 = 0u;
@@ -21012,24 +21621,78 @@ INTERNAL void core_scan_scan_once(word result, word work, u32 no_comma_from) {
             store32(result + 4u, n212 ? n91 : 0u);
             return;
         }
-        if (n506 != 35u)
-            goto L647;
-        if (w594 == 2u)
-            goto L647;
-        if (load8(p616 + 17u) != 40u)
-            goto L647;
+        if (n506 != 35u) {
+            store32(work + 24u, n588 - 1u);
+            p50 = work + 32u;
+            n184 = load32(p50);
+            p131 = work + 20u;
+            n185 = load32(p131);
+            p775 = ((word)(load32(work + 16u) + n185) << 3) + p968;
+            store16(p775, 8960u);
+            n212 = 0u;
+            store32(p775 + 4u, 0u);
+            store32(p131, n185 + 1u);
+            store32(p50, n184);
+            w19 = 1u;
+            w68 = w19;
+            n91 = 0u;
+            store32(result, n212);
+            store64(result + 8u, n212 ? w68 : 0u);
+            store32(result + 4u, n212 ? n91 : 0u);
+            return;
+        }
+        if (w594 == 2u) {
+            store32(work + 24u, n588 - 1u);
+            p50 = work + 32u;
+            n184 = load32(p50);
+            p131 = work + 20u;
+            n185 = load32(p131);
+            p775 = ((word)(load32(work + 16u) + n185) << 3) + p968;
+            store16(p775, 8960u);
+            n212 = 0u;
+            store32(p775 + 4u, 0u);
+            store32(p131, n185 + 1u);
+            store32(p50, n184);
+            w19 = 1u;
+            w68 = w19;
+            n91 = 0u;
+            store32(result, n212);
+            store64(result + 8u, n212 ? w68 : 0u);
+            store32(result + 4u, n212 ? n91 : 0u);
+            return;
+        }
+        if (load8(p616 + 17u) != 40u) {
+            store32(work + 24u, n588 - 1u);
+            p50 = work + 32u;
+            n184 = load32(p50);
+            p131 = work + 20u;
+            n185 = load32(p131);
+            p775 = ((word)(load32(work + 16u) + n185) << 3) + p968;
+            store16(p775, 8960u);
+            n212 = 0u;
+            store32(p775 + 4u, 0u);
+            store32(p131, n185 + 1u);
+            store32(p50, n184);
+            w19 = 1u;
+            w68 = w19;
+            n91 = 0u;
+            store32(result, n212);
+            store64(result + 8u, n212 ? w68 : 0u);
+            store32(result + 4u, n212 ? n91 : 0u);
+            return;
+        }
         store32(work + 24u, n588 - 3u);
-        const word p50 = work + 32u;
-        const u32 n380 = load32(p50);
-        const word p131 = work + 20u;
-        const u32 n864 = load32(p131);
+        const word p51 = work + 32u;
+        const u32 n380 = load32(p51);
+        const word p132 = work + 20u;
+        const u32 n864 = load32(p132);
         const word p776 = ((word)(load32(work + 16u) + n864) << 3) + p968;
         store16(p776, 257u);
         n212 = 0u;
         const u32 n402 = n864 + 1u;
         store32(p776 + 4u, n380 ? n402 - n380 : 0u);
-        store32(p131, n402);
-        store32(p50, n402);
+        store32(p132, n402);
+        store32(p51, n402);
         w19 = core_scan_add_run_within() + 1u;
         w68 = w19;
         n91 = 0u;
@@ -21065,27 +21728,6 @@ INTERNAL void core_scan_scan_once(word result, word work, u32 no_comma_from) {
     case 35:
     {
         w19 = core_scan_begin_argument(work, 1u, frame + 8u);
-        w68 = w19;
-        n91 = 0u;
-        store32(result, n212);
-        store64(result + 8u, n212 ? w68 : 0u);
-        store32(result + 4u, n212 ? n91 : 0u);
-        return;
-    }
-L647:;
-    {
-        store32(work + 24u, n588 - 1u);
-        const word p50 = work + 32u;
-        const u32 n380 = load32(p50);
-        const word p131 = work + 20u;
-        const u32 n864 = load32(p131);
-        const word p776 = ((word)(load32(work + 16u) + n864) << 3) + p968;
-        store16(p776, 8960u);
-        n212 = 0u;
-        store32(p776 + 4u, 0u);
-        store32(p131, n864 + 1u);
-        store32(p50, n380);
-        w19 = 1u;
         w68 = w19;
         n91 = 0u;
         store32(result, n212);
@@ -21241,7 +21883,7 @@ INTERNAL u64 core_scan_add_characters(word work, u64 most, word hints) {
 }
 #endif
 
-#if UNITS & 0x15
+#if UNITS & 0x19
 
 /* A comma is deleted. */
 static INLINE u64 core_scan_begin_argument(word work, u64 most, word hints) {
@@ -21425,7 +22067,7 @@ INTERNAL void core_scan_protect(word work) {
 }
 #endif
 
-#if UNITS & 0x5
+#if UNITS & 0x9
 
 /* Puts the bytes of a source up to the meta character at the end of the neutral string, as far as they fit. */
 INTERNAL u32 core_streaming_read_text(word work, u32 meta, word source) {
@@ -21487,7 +22129,7 @@ INTERNAL u32 core_streaming_read_text(word work, u32 meta, word source) {
 
 /* ---- The crate trac_image ---- */
 
-#if UNITS & 0x10
+#if UNITS & 0x2
 
 /* The numbers at the front of a text. */
 static void image_reading_heads_of(word result, word text, u64 text_len) {
@@ -21670,7 +22312,7 @@ static void image_reading_behind_form(word result, u64 text, u64 text_len) {
 
 /* ---- The crate trac_events ---- */
 
-#if UNITS & 0x20
+#if UNITS & 0x40
 
 /* Argument `k` of a call, by the cells of all arguments; argument 0 names the function. */
 static INLINE void events_call_argument(word result, u64 arguments, u64 arguments_len) {
@@ -21720,7 +22362,7 @@ static INLINE void events_call_argument(word result, u64 arguments, u64 argument
 
 /* ---- The crate trac_warnings ---- */
 
-#if UNITS & 0x40
+#if UNITS & 0x20
 
 /* Looks at the arguments that `cl` gives a form: */
 INTERNAL u32 warnings_arguments_look_at_arguments(word warnings, u64 alloc, word form, word ending) {
@@ -21941,7 +22583,7 @@ INTERNAL u32 warnings_arguments_look_at_arguments(word warnings, u64 alloc, word
                     do {
                         {
                             if (w51 - w177 <= 4u) {
-                                const u32 n247 = std_alloc_vec_Vec_grow_amortized4(frame + 40u, 5u);
+                                const u32 n247 = std_alloc_vec_Vec_grow_amortized3(frame + 40u, 5u);
                                 w51 = load64(frame + 56u);
                                 if (n247 == 0u) {
                                     if (w51 == 0u) {
@@ -21983,7 +22625,7 @@ INTERNAL u32 warnings_arguments_look_at_arguments(word warnings, u64 alloc, word
                             const u64 w432 = itoa_integer_write_unsigned(n155, frame + 72u);
                             const u64 w928 = 40u - w432;
                             if (w51 - w178 < w928) {
-                                if (std_alloc_vec_Vec_grow_amortized4(frame + 40u, w928) == 0u) {
+                                if (std_alloc_vec_Vec_grow_amortized3(frame + 40u, w928) == 0u) {
                                     const u64 w52 = load64(frame + 56u);
                                     if (w52 == 0u) {
                                         n133 = 1u;
@@ -22022,7 +22664,7 @@ INTERNAL u32 warnings_arguments_look_at_arguments(word warnings, u64 alloc, word
                             store64(frame + 48u, w179);
                             store64(frame + 56u, w51);
                             if (w51 - w179 <= 13u) {
-                                const u32 n498 = std_alloc_vec_Vec_grow_amortized4(frame + 40u, 14u);
+                                const u32 n498 = std_alloc_vec_Vec_grow_amortized3(frame + 40u, 14u);
                                 w51 = load64(frame + 56u);
                                 if (n498 == 0u) {
                                     if (w51 == 0u) {
@@ -22075,7 +22717,7 @@ INTERNAL u32 warnings_arguments_look_at_arguments(word warnings, u64 alloc, word
                             const u64 w606 = itoa_integer_write_unsigned(n477, frame + 72u);
                             const u64 w253 = 40u - w606;
                             if (w51 - w180 < w253) {
-                                if (std_alloc_vec_Vec_grow_amortized4(frame + 40u, w253) == 0u) {
+                                if (std_alloc_vec_Vec_grow_amortized3(frame + 40u, w253) == 0u) {
                                     const u64 w52 = load64(frame + 56u);
                                     if (w52 == 0u) {
                                         n133 = 1u;
@@ -22116,7 +22758,7 @@ INTERNAL u32 warnings_arguments_look_at_arguments(word warnings, u64 alloc, word
                             const u64 w703 = w51 - w181;
                             if (n477 == 1u) {
                                 if (w703 <= 8u) {
-                                    if (std_alloc_vec_Vec_grow_amortized4(frame + 40u, 9u) == 0u)
+                                    if (std_alloc_vec_Vec_grow_amortized3(frame + 40u, 9u) == 0u)
                                         goto L325;
                                     w903 = load64(frame + 40u);
                                     w181 = load64(frame + 48u);
@@ -22134,7 +22776,7 @@ INTERNAL u32 warnings_arguments_look_at_arguments(word warnings, u64 alloc, word
                                 break;
                             }
                             if (w703 <= 9u) {
-                                if (std_alloc_vec_Vec_grow_amortized4(frame + 40u, 10u) == 0u)
+                                if (std_alloc_vec_Vec_grow_amortized3(frame + 40u, 10u) == 0u)
                                     goto L325;
                                 w903 = load64(frame + 40u);
                                 w181 = load64(frame + 48u);
@@ -22187,7 +22829,7 @@ INTERNAL u32 warnings_arguments_look_at_arguments(word warnings, u64 alloc, word
                     const word p716 = warnings + 8u;
                     u64 w852 = load64(p716);
                     if (load64(warnings + 16u) == w852) {
-                        if (std_alloc_vec_Vec_grow_amortized3(warnings) == 0u) {
+                        if (std_alloc_vec_Vec_grow_amortized2(warnings) == 0u) {
                             n133 = 1u;
                             if (w51 == 0u) {
                                 return n133;
@@ -22314,7 +22956,65 @@ INTERNAL u32 warnings_arguments_look_at_arguments(word warnings, u64 alloc, word
 }
 #endif
 
-#if UNITS & 0x60
+#if UNITS & 0x40
+
+/* The cells of a text without the blanks and the layout around it. */
+static void warnings_blanks_trimmed(word result, u64 cells, u64 cells_len) {
+    u64 room[2];
+    const word frame = (word)room;
+    {
+        {
+            if (cells_len != 0u) {
+                word p595 = (word)cells_len << 3;
+                for (;;) {
+                    if (load8(no_address((word)cells, 1u)) == 0u) {
+                        const word p128 = load8(no_address((word)cells + 1u, 1u));
+                        if (p128 <= 32u) {
+                            if ((((u64)1u << (p128 & 63u)) & 4294977024ull) != 0u) {
+                                cells = cells + 8u;
+                                p595 = p595 - 8u;
+                                cells_len = cells_len - 1u;
+                                if (cells_len != 0u)
+                                    continue;
+                                break;
+                            }
+                        }
+                    }
+                    if (cells_len == 0u) {
+                        cells_len = 0u;
+                        goto L707;
+                    }
+                    const word p747 = p595 + (word)cells;
+                    if (load8(no_address(p747 - 8u, 1u))) {
+                        store64(result, no_address((word)cells, 1u));
+                        store64(result + 8u, cells_len);
+                        return;
+                    }
+                    const word p449 = load8(no_address(p747 - 7u, 1u));
+                    if (p449 > 32u) {
+                        store64(result, no_address((word)cells, 1u));
+                        store64(result + 8u, cells_len);
+                        return;
+                    }
+                    if ((((u64)1u << (p449 & 63u)) & 4294977024ull) == 0u) {
+                        store64(result, no_address((word)cells, 1u));
+                        store64(result + 8u, cells_len);
+                        return;
+                    }
+                    goto L707;
+                }
+            }
+        }
+        cells = TABLES + 5032u;
+        cells_len = 0u;
+    }
+L707:;
+    warnings_blanks_before_last_blanks(frame, no_address((word)cells, 1u), cells_len);
+    cells_len = load64(frame + 8u);
+    cells = load64(frame);
+    store64(result, no_address((word)cells, 1u));
+    store64(result + 8u, cells_len);
+}
 
 /* trac_warnings::blanks::before_last_blanks. */
 static INLINE void warnings_blanks_before_last_blanks(word result, u64 cells, u64 cells_len) {
@@ -22387,9 +23087,6 @@ static INLINE void warnings_blanks_before_last_blanks(word result, u64 cells, u6
     store64(result + 8u, w68);
     store64(result, cells);
 }
-#endif
-
-#if UNITS & 0x20
 
 /* Looks at the form whose body a call gives, takes apart or segments. */
 static u32 warnings_bodies_look_at_body(word warnings, u64 alloc, u32 function, word form, word ending) {
@@ -22856,480 +23553,487 @@ INTERNAL u32 warnings_findings_Findings_add(word self, word warning) {
     u64 w68 = 0u;
     word p68 = 0u;
     u64 w69 = 0u;
-    u64 w574;
-    u64 w292;
-    u64 w235;
-    u64 w796;
-    u32 n978;
+    const u64 w574 = load64(warning + 72u);
+    const u64 w292 = load64(warning + 64u);
+    const u64 w235 = load64(warning + 56u);
+    const u64 w796 = load64(warning + 48u);
+    const u32 n978 = load8(warning + 32u);
+    fill(frame + 104u, 0u, 80u);
+    fill(frame + 24u, 0u, 80u);
+    store64(frame + 224u, load64(warning + 24u));
+    store64(frame + 216u, load64(warning + 16u));
+    store64(frame + 208u, load64(warning + 8u));
+    store64(frame + 200u, load64(warning));
+    const word p526 = warning + 33u;
+    store64(frame + 184u, load64(p526));
+    store64(frame + 191u, load64(p526 + 7u));
+    const word p816 = n978;
     u32 n216;
-    do {
-        w574 = load64(warning + 72u);
-        w292 = load64(warning + 64u);
-        w235 = load64(warning + 56u);
-        w796 = load64(warning + 48u);
-        n978 = load8(warning + 32u);
-        fill(frame + 104u, 0u, 80u);
-        fill(frame + 24u, 0u, 80u);
-        store64(frame + 224u, load64(warning + 24u));
-        store64(frame + 216u, load64(warning + 16u));
-        store64(frame + 208u, load64(warning + 8u));
-        store64(frame + 200u, load64(warning));
-        const word p526 = warning + 33u;
-        store64(frame + 184u, load64(p526));
-        store64(frame + 191u, load64(p526 + 7u));
-        const word p816 = n978;
-        if ((((u64)1u << (p816 & 63u)) & 35152159827583ull) != 0u) {
-            store8(frame + 136u, n978);
-            store64(frame + 176u, w574);
-            store64(frame + 168u, w292);
-            store64(frame + 160u, w235);
-            store64(frame + 152u, w796);
-            store64(frame + 128u, load64(warning + 24u));
-            store64(frame + 120u, load64(warning + 16u));
-            store64(frame + 112u, load64(warning + 8u));
-            store64(frame + 104u, load64(warning));
-            store64(frame + 137u, load64(p526));
-            store64(frame + 144u, load64(p526 + 7u));
-            n216 = warnings_findings_count(self, frame + 104u) & 255u;
-            return n216;
-        }
-        store64(frame + 280u, 0u);
-        store64(frame + 272u, 0u);
-        store64(frame + 264u, 0u);
-        store64(frame + 256u, 0u);
-        store64(frame + 248u, 0u);
-        std_alloc_vec_Vec_with_capacity(frame + 248u, w574, w235);
-        if (load8(frame + 248u) == 0u) {
-            u64 w301 = load64(frame + 264u);
-            const u64 w840 = load64(frame + 256u);
-            do {
-                if (w235 != 0u) {
-                    u64 w641 = (word)w235 & 3u;
-                    u64 w70 = 0u;
-                    if (w235 >= 4u) {
-                        const word p636 = (word)w301 + (word)w840;
-                        const u64 w788 = w235 & 18446744073709551612ull;
-                        do {
-                            const word p458 = (word)w70 + p636;
-                            const word p674 = (word)w70 + (word)w796;
-                            store8(p458, load8(p674));
-                            store8(p458 + 1u, load8(p674 + 1u));
-                            store8(p458 + 2u, load8(p674 + 2u));
-                            store8(p458 + 3u, load8(p674 + 3u));
-                            w70 = w70 + 4u;
-                        } while (w70 != w788);
-                        w301 = w70 + w301;
-                        if (w641 == 0u)
+    if ((((u64)1u << (p816 & 63u)) & 35152159827583ull) != 0u) {
+        store8(frame + 136u, n978);
+        store64(frame + 176u, w574);
+        store64(frame + 168u, w292);
+        store64(frame + 160u, w235);
+        store64(frame + 152u, w796);
+        store64(frame + 128u, load64(warning + 24u));
+        store64(frame + 120u, load64(warning + 16u));
+        store64(frame + 112u, load64(warning + 8u));
+        store64(frame + 104u, load64(warning));
+        store64(frame + 137u, load64(p526));
+        store64(frame + 144u, load64(p526 + 7u));
+        n216 = warnings_findings_count(self, frame + 104u) & 255u;
+        return n216;
+    }
+    store64(frame + 280u, 0u);
+    store64(frame + 272u, 0u);
+    store64(frame + 264u, 0u);
+    store64(frame + 256u, 0u);
+    store64(frame + 248u, 0u);
+    std_alloc_vec_Vec_with_capacity(frame + 248u, w574, w235);
+    if (load8(frame + 248u) == 0u) {
+        u64 w301 = load64(frame + 264u);
+        const u64 w840 = load64(frame + 256u);
+        do {
+            if (w235 != 0u) {
+                u64 w641 = (word)w235 & 3u;
+                u64 w70 = 0u;
+                if (w235 >= 4u) {
+                    const word p636 = (word)w301 + (word)w840;
+                    const u64 w788 = w235 & 18446744073709551612ull;
+                    do {
+                        const word p458 = (word)w70 + p636;
+                        const word p674 = (word)w70 + (word)w796;
+                        store8(p458, load8(p674));
+                        store8(p458 + 1u, load8(p674 + 1u));
+                        store8(p458 + 2u, load8(p674 + 2u));
+                        store8(p458 + 3u, load8(p674 + 3u));
+                        w70 = w70 + 4u;
+                    } while (w70 != w788);
+                    w301 = w70 + w301;
+                    if (w641 == 0u)
+                        break;
+                }
+                word p301 = (word)w70 + (word)w796;
+                do {
+                    store8((word)w301 + (word)w840, load8(p301));
+                    p301 = p301 + 1u;
+                    w301 = w301 + 1u;
+                    w641 = w641 - 1u;
+                } while (w641 != 0u);
+            }
+        } while (0);
+        const u64 w167 = load64(frame + 280u);
+        const u64 w286 = load64(frame + 272u);
+        do {
+            u64 w174;
+            if (load8(self + 32u) == 1u) {
+                w174 = load64(self + 40u);
+            } else {
+                word p189;
+                u32 n375;
+                u64 w419;
+                do {
+                    p189 = load_word(self + 56u);
+                    if (load64(p189 + 32u) != 0u) {
+                        const word p166 = load_word(p189 + 24u);
+                        const word p486 = p166 + 32u;
+                        const u64 w248 = load64(p486);
+                        if (w248 >= 488u) {
+                            const u64 w66 = (w248 & 18446744073709551608ull) - 488u;
+                            store64(p486, w66);
+                            n375 = 1u;
+                            w419 = load64(p166) + w66;
                             break;
-                    }
-                    word p301 = (word)w70 + (word)w796;
-                    do {
-                        store8((word)w301 + (word)w840, load8(p301));
-                        p301 = p301 + 1u;
-                        w301 = w301 + 1u;
-                        w641 = w641 - 1u;
-                    } while (w641 != 0u);
-                }
-            } while (0);
-            const u64 w167 = load64(frame + 280u);
-            const u64 w286 = load64(frame + 272u);
-            do {
-                u64 w174;
-                if (load8(self + 32u) == 1u) {
-                    w174 = load64(self + 40u);
-                } else {
-                    word p189;
-                    u32 n375;
-                    u64 w419;
-                    do {
-                        p189 = load_word(self + 56u);
-                        if (load64(p189 + 32u) != 0u) {
-                            const word p166 = load_word(p189 + 24u);
-                            const word p486 = p166 + 32u;
-                            const u64 w248 = load64(p486);
-                            if (w248 >= 488u) {
-                                const u64 w66 = (w248 & 18446744073709551608ull) - 488u;
-                                store64(p486, w66);
-                                n375 = 1u;
-                                w419 = load64(p166) + w66;
-                                break;
-                            }
                         }
-                        bumpalo_bump_Bump_alloc_layout_slow(frame + 8u, p189, 488u, 8u);
-                        n375 = load8(frame + 8u);
-                        w419 = load64(frame + 16u);
-                    } while (0);
-                    w174 = w419;
-                    if ((n375 & 1u) == 0u)
-                        break;
-                    const word p11 = p189 + 40u;
-                    const u64 w875 = load64(p11);
-                    if (w875 == 18446744073709551615ull)
-                        break;
-                    store64(p11, w875 + 1u);
-                    store32((word)w174, 0u);
-                    store64(self + 40u, w174);
-                    const word p845 = self + 32u;
-                    const u32 n690 = load8(p845);
-                    store64(p845, 1u);
-                    if (n690 == 1u) {
-                        trap();
                     }
+                    bumpalo_bump_Bump_alloc_layout_slow(frame + 8u, p189, 488u, 8u);
+                    n375 = load8(frame + 8u);
+                    w419 = load64(frame + 16u);
+                } while (0);
+                w174 = w419;
+                if ((n375 & 1u) == 0u)
+                    break;
+                const word p11 = p189 + 40u;
+                const u64 w875 = load64(p11);
+                if (w875 == 18446744073709551615ull)
+                    break;
+                store64(p11, w875 + 1u);
+                store32((word)w174, 0u);
+                store64(self + 40u, w174);
+                const word p845 = self + 32u;
+                const u32 n690 = load8(p845);
+                store64(p845, 1u);
+                if (n690 == 1u) {
+                    trap();
                 }
-                const word p382 = self + 40u;
-                const u32 n774 = load16((word)w174 + 2u);
-                u32 n630 = 0u - n774;
-                u64 w87 = w174;
-                u64 w36 = w87;
-                const word p643 = (word)n774 & 65535u;
-                const u64 w636 = (u64)15u - p643;
-                u64 w100 = w636;
-                for (;;) {
-                    u64 w70 = 0u;
-                    u64 w353;
-                    {
-                        w353 = w87;
-                        const word p893 = load16((word)w353);
-                        if (p893 != 0u) {
-                            const word p759 = (word)w353 + 8u;
-                            for (;;) {
-                                const word p700 = ((word)w70 << 5) + p759;
-                                const word p278 = load_word(p700);
-                                u64 w71 = 0u;
-                                u64 w825;
-                                u64 w207;
+            }
+            const word p382 = self + 40u;
+            const u32 n774 = load16((word)w174 + 2u);
+            u32 n630 = 0u - n774;
+            u64 w87 = w174;
+            u64 w36 = w87;
+            const word p643 = (word)n774 & 65535u;
+            const u64 w636 = (u64)15u - p643;
+            u64 w100 = w636;
+            for (;;) {
+                u64 w70 = 0u;
+                u64 w353;
+                {
+                    w353 = w87;
+                    const word p893 = load16((word)w353);
+                    if (p893 != 0u) {
+                        const word p759 = (word)w353 + 8u;
+                        for (;;) {
+                            const word p700 = ((word)w70 << 5) + p759;
+                            const word p278 = load_word(p700);
+                            u64 w71 = 0u;
+                            u64 w825;
+                            u64 w207;
+                            {
+                                w825 = load64(p700 + 8u);
+                                w207 = w301 > w825 ? w825 : w301;
+                                if (w207 >= 64u) {
+                                    const u64 w495 = w207 & 18446744073709551552ull;
+                                    word p729 = (word)w840;
+                                    word p346 = p278;
+                                    for (;;) {
+                                        u32 n20 = 0u;
+                                        u64 w72 = 0u;
+                                        do {
+                                            const word p596 = (word)w72 + p729;
+                                            const u32 n278 = load8(p596);
+                                            const word p597 = (word)w72 + p346;
+                                            const u32 n873 = load8(p596 + 1u);
+                                            n20 = (load8(p597 + 1u) != n873) | ((load8(p597) != n278) | n20);
+                                            w72 = w72 + 2u;
+                                        } while (w72 != 64u);
+                                        if (n20 & 1u)
+                                            break;
+                                        p729 = p729 + 64u;
+                                        p346 = p346 + 64u;
+                                        w71 = w71 + 64u;
+                                        if (w207 - w71 <= 63u) {
+                                            w71 = w495;
+                                            break;
+                                        }
+                                    }
+                                }
+                            }
+                            {
+                                u64 w699 = w207 - w71;
+                                if (w699 >= 8u) {
+                                    while (load64(p278 + (word)w71) == load64((word)w71 + (word)w840)) {
+                                        w71 = w71 + 8u;
+                                        w699 = w699 - 8u;
+                                        if (w699 <= 7u)
+                                            break;
+                                    }
+                                }
+                            }
+                            {
                                 {
-                                    w825 = load64(p700 + 8u);
-                                    w207 = w301 > w825 ? w825 : w301;
-                                    if (w207 >= 64u) {
-                                        const u64 w495 = w207 & 18446744073709551552ull;
-                                        word p729 = (word)w840;
-                                        word p346 = p278;
+                                    if (w71 < w207) {
+                                        word p301 = (word)w71 + (word)w840;
+                                        word p302 = p278 + (word)w71;
+                                        u64 w641 = w207 - w71;
                                         for (;;) {
-                                            u32 n20 = 0u;
-                                            u64 w72 = 0u;
-                                            do {
-                                                const word p596 = (word)w72 + p729;
-                                                const u32 n278 = load8(p596);
-                                                const word p597 = (word)w72 + p346;
-                                                const u32 n873 = load8(p596 + 1u);
-                                                n20 = (load8(p597 + 1u) != n873) | ((load8(p597) != n278) | n20);
-                                                w72 = w72 + 2u;
-                                            } while (w72 != 64u);
-                                            if (n20 & 1u)
-                                                break;
-                                            p729 = p729 + 64u;
-                                            p346 = p346 + 64u;
-                                            w71 = w71 + 64u;
-                                            if (w207 - w71 <= 63u) {
-                                                w71 = w495;
+                                            const u32 n357 = load8(p301);
+                                            const u32 n358 = load8(p302);
+                                            if (n357 == n358) {
+                                                p301 = p301 + 1u;
+                                                p302 = p302 + 1u;
+                                                w641 = w641 - 1u;
+                                                if (w641 != 0u)
+                                                    continue;
                                                 break;
                                             }
+                                            if (n358 <= n357)
+                                                goto L8;
+                                            goto L9;
                                         }
                                     }
                                 }
-                                {
-                                    u64 w699 = w207 - w71;
-                                    if (w699 >= 8u) {
-                                        while (load64(p278 + (word)w71) == load64((word)w71 + (word)w840)) {
-                                            w71 = w71 + 8u;
-                                            w699 = w699 - 8u;
-                                            if (w699 <= 7u)
-                                                break;
-                                        }
+                                if (w301 == w825) {
+                                    const word p146 = load_word(w100 + p643 == 15u ? p382 : (p68 << 3) + (word)w36 +
+                                        488u);
+                                    if (((word)w70 & 15u) >= load16(p146)) {
+                                        trap();
                                     }
-                                }
-                                {
-                                    {
-                                        if (w71 < w207) {
-                                            word p301 = (word)w71 + (word)w840;
-                                            word p302 = p278 + (word)w71;
-                                            u64 w641 = w207 - w71;
-                                            for (;;) {
-                                                const u32 n357 = load8(p301);
-                                                const u32 n358 = load8(p302);
-                                                if (n357 == n358) {
-                                                    p301 = p301 + 1u;
-                                                    p302 = p302 + 1u;
-                                                    w641 = w641 - 1u;
-                                                    if (w641 != 0u)
-                                                        continue;
-                                                    break;
-                                                }
-                                                if (n358 <= n357)
-                                                    goto L8;
-                                                goto L9;
+                                    if (w286 != 0u) {
+                                        if (load64((word)w167 + 32u) == 1u) {
+                                            const word p906 = load_word((word)w167 + 24u);
+                                            const u64 w168 = load64(p906 + 32u);
+                                            if (load64(p906) + w168 == w840) {
+                                                store64(p906 + 32u, w168 + w286);
                                             }
                                         }
+                                        const word p37 = (word)w167 + 40u;
+                                        store64(p37, load64(p37) - 1u);
                                     }
-                                    if (w301 == w825) {
-                                        const word p146 = load_word(w100 + p643 == 15u ? p382 : (p68 << 3) +
-                                            (word)w36 + 488u);
-                                        if (((word)w70 & 15u) >= load16(p146)) {
-                                            trap();
-                                        }
-                                        if (w286 != 0u) {
-                                            if (load64((word)w167 + 32u) == 1u) {
-                                                const word p906 = load_word((word)w167 + 24u);
-                                                const u64 w168 = load64(p906 + 32u);
-                                                if (load64(p906) + w168 == w840) {
-                                                    store64(p906 + 32u, w168 + w286);
-                                                }
-                                            }
-                                            const word p37 = (word)w167 + 40u;
-                                            store64(p37, load64(p37) - 1u);
-                                        }
-                                        if ((((u64)1u << (p816 & 63u)) & 35152159827711ull) != 0u)
-                                            goto L387;
-                                        n216 = 0u;
-                                        if (w292 == 0u) {
-                                            return n216;
-                                        }
-                                        word p97;
-                                        if (load64((word)w574 + 32u) != 1u) {
-                                            p97 = (word)w574 + 40u;
-                                            store64(p97, load64(p97) - 1u);
-                                            return n216;
-                                        }
-                                        const word p108 = load_word((word)w574 + 24u);
-                                        const u64 w26 = load64(p108 + 32u);
-                                        if (load64(p108) + w26 != w796) {
-                                            p97 = (word)w574 + 40u;
-                                            store64(p97, load64(p97) - 1u);
-                                            return n216;
-                                        }
-                                        store64(p108 + 32u, w26 + w292);
+                                    if ((((u64)1u << (p816 & 63u)) & 35152159827711ull) != 0u) {
+                                        store64(frame + 48u, load64(frame + 224u));
+                                        store64(frame + 40u, load64(frame + 216u));
+                                        store64(frame + 32u, load64(frame + 208u));
+                                        store64(frame + 24u, load64(frame + 200u));
+                                        store8(frame + 56u, n978);
+                                        store64(frame + 57u, load64(frame + 184u));
+                                        store64(frame + 64u, load64(frame + 191u));
+                                        store64(frame + 96u, w574);
+                                        store64(frame + 88u, w292);
+                                        store64(frame + 80u, w235);
+                                        store64(frame + 72u, w796);
+                                        n216 = warnings_findings_count(self, frame + 24u) & 255u;
+                                        return n216;
+                                    }
+                                    n216 = 0u;
+                                    if (w292 == 0u) {
+                                        return n216;
+                                    }
+                                    word p97;
+                                    if (load64((word)w574 + 32u) != 1u) {
                                         p97 = (word)w574 + 40u;
                                         store64(p97, load64(p97) - 1u);
                                         return n216;
                                     }
-                                    if (w301 < w825)
-                                        break;
+                                    const word p108 = load_word((word)w574 + 24u);
+                                    const u64 w26 = load64(p108 + 32u);
+                                    if (load64(p108) + w26 != w796) {
+                                        p97 = (word)w574 + 40u;
+                                        store64(p97, load64(p97) - 1u);
+                                        return n216;
+                                    }
+                                    store64(p108 + 32u, w26 + w292);
+                                    p97 = (word)w574 + 40u;
+                                    store64(p97, load64(p97) - 1u);
+                                    return n216;
                                 }
-                            L8:;
-                                w70 = w70 + 1u;
-                                if (w70 == p893) {
-                                    w70 = p893;
+                                if (w301 < w825)
                                     break;
-                                }
+                            }
+                        L8:;
+                            w70 = w70 + 1u;
+                            if (w70 == p893) {
+                                w70 = p893;
+                                break;
                             }
                         }
                     }
-                L9:;
-                    w100 = w100 + 1u;
-                    w69 = (w69 << 4) + w70;
-                    if (load16((word)w353 + 2u)) {
-                        n630 = n630 + 1u;
-                        w68 = w68 + 1u;
-                        w87 = load64(((word)w70 << 3) + (word)w353 + 488u);
-                        p68 = (word)w70;
-                        w36 = w353;
-                    } else {
-                        break;
-                    }
                 }
-                if (load64(self + 48u) <= 9223372036854775806ull) {
-                    word p401;
+            L9:;
+                w100 = w100 + 1u;
+                w69 = (w69 << 4) + w70;
+                if (load16((word)w353 + 2u)) {
+                    n630 = n630 + 1u;
+                    w68 = w68 + 1u;
+                    w87 = load64(((word)w70 << 3) + (word)w353 + 488u);
+                    p68 = (word)w70;
+                    w36 = w353;
+                } else {
+                    break;
+                }
+            }
+            if (load64(self + 48u) <= 9223372036854775806ull) {
+                word p401;
+                {
                     {
-                        {
-                            word p156 = p68 << 3;
-                            u64 w703 = w100 - w636;
-                            const word p205 = load_word(w703 == 1u ? p382 : (word)w36 + p156 + 488u);
-                            if (load16(p205) >= 15u) {
-                                fill(frame + 248u, 0u, 88u);
-                                p401 = self + 56u;
-                                u64 w6 = w636;
-                                if (load16((word)w174) >= 15u) {
-                                    if (n774 > 10u)
-                                        break;
-                                    std_collections_btree_node_parts_Parts_new(frame + 248u, p401, (word)(n774 + 1u)
-                                        & 65535u);
-                                    if (load8(frame + 248u))
-                                        break;
-                                    const u64 w720 = load64(p382);
-                                    w174 = load64(frame + 328u);
-                                    const word p967 = load_word(frame + 304u);
-                                    const word p723 = load_word(frame + 264u);
-                                    const u64 w432 = load64(frame + 312u);
-                                    if (w432 != 0u) {
-                                        const u64 w684 = w432 << 3;
-                                        if (w684 != 0u) {
-                                            copy(p967 + 8u, p967, (word)w684);
-                                        }
-                                    }
-                                    store64(p967, w720);
-                                    store16((word)w174, (u32)p723);
-                                    store64(p382, w174);
-                                    w6 = (u64)14u - p643;
-                                }
-                                store64(frame + 256u, 0u);
-                                store64(frame + 248u, 0u);
-                                if (w100 > w6) {
-                                    const u64 w856 = w636 + w68 - w6;
-                                    u64 w353;
-                                    if ((((word)w100 - (word)w6) & 3u) == 0u) {
-                                        w353 = w100;
-                                    } else {
-                                        u64 w641 = (word)(n630 - (u32)(word)w6) & 3u;
-                                        w353 = w100;
-                                        do {
-                                            w353 = w353 - 1u;
-                                            store8(frame + 248u + (word)w353, (u32)(word)w69 & 15u);
-                                            w69 = w69 >> 4;
-                                            w641 = w641 - 1u;
-                                        } while (w641 != 0u);
-                                    }
-                                    if (w856 >= 3u) {
-                                        do {
-                                            const word p50 = (word)w353 + (frame + 244u);
-                                            const u32 n14 = (u32)(word)w69;
-                                            store8(p50 + 3u, n14 & 15u);
-                                            store8(p50 + 2u, (n14 & 240u) >> 4);
-                                            store8(p50 + 1u, (n14 >> 8) & 15u);
-                                            store8(p50, (n14 >> 12) & 15u);
-                                            w69 = w69 >> 16;
-                                            w353 = w353 - 4u;
-                                        } while (w6 < w353);
+                        word p156 = p68 << 3;
+                        u64 w703 = w100 - w636;
+                        const word p205 = load_word(w703 == 1u ? p382 : (word)w36 + p156 + 488u);
+                        if (load16(p205) >= 15u) {
+                            fill(frame + 248u, 0u, 88u);
+                            p401 = self + 56u;
+                            u64 w6 = w636;
+                            if (load16((word)w174) >= 15u) {
+                                if (n774 > 10u)
+                                    break;
+                                std_collections_btree_node_parts_Parts_new(frame + 248u, p401, (word)(n774 + 1u) &
+                                    65535u);
+                                if (load8(frame + 248u))
+                                    break;
+                                const u64 w720 = load64(p382);
+                                w174 = load64(frame + 328u);
+                                const word p967 = load_word(frame + 304u);
+                                const word p723 = load_word(frame + 264u);
+                                const u64 w432 = load64(frame + 312u);
+                                if (w432 != 0u) {
+                                    const u64 w684 = w432 << 3;
+                                    if (w684 != 0u) {
+                                        copy(p967 + 8u, p967, (word)w684);
                                     }
                                 }
-                                store64(frame + 240u, load64(frame + 256u));
-                                store64(frame + 232u, load64(frame + 248u));
-                                u64 w405 = 16u - w6;
-                                if (w405 >= 2u) {
-                                    word p14 = frame + 232u + (word)w6;
-                                    word p8 = p382;
-                                    u64 w353 = 0;
+                                store64(p967, w720);
+                                store16((word)w174, (u32)p723);
+                                store64(p382, w174);
+                                w6 = (u64)14u - p643;
+                            }
+                            store64(frame + 256u, 0u);
+                            store64(frame + 248u, 0u);
+                            if (w100 > w6) {
+                                const u64 w856 = w636 + w68 - w6;
+                                u64 w353;
+                                if ((((word)w100 - (word)w6) & 3u) == 0u) {
+                                    w353 = w100;
+                                } else {
+                                    u64 w641 = (word)(n630 - (u32)(word)w6) & 3u;
+                                    w353 = w100;
                                     do {
-                                        w353 = w405;
-                                        w36 = load64(p8);
-                                        u32 n357 = load8(p14);
-                                        const word p698 = (word)n357 & 255u;
-                                        const word p836 = p698 << 3;
-                                        if (load16(load_word(p836 + (word)w36 + 488u)) >= 15u) {
-                                            fill(frame + 248u, 0u, 88u);
-                                            std_collections_btree_node_parts_Parts_new(frame + 248u, p401,
-                                                (u64)load16((word)w36 + 2u) - 1u);
-                                            if (load8(frame + 248u))
-                                                goto L310;
-                                            const u64 w175 = load64(frame + 328u);
-                                            const u64 w432 = load64(frame + 312u);
-                                            const u64 w967 = load64(frame + 304u);
-                                            const u64 w841 = load64(frame + 256u);
-                                            const u64 w723 = load64(frame + 264u);
-                                            const u64 w37 = load64(p8);
-                                            store64(frame + 440u, w37);
-                                            const u64 w619 = w37 + 488u;
-                                            store64(frame + 416u, w619);
-                                            store64(frame + 408u, 15u);
-                                            store64(frame + 392u, w619);
-                                            store64(frame + 384u, 15u);
-                                            store64(frame + 368u, w37 + 8u);
-                                            store64(frame + 360u, 0u);
-                                            store64(frame + 352u, 0u);
-                                            store64(frame + 344u, 0u);
-                                            store64(frame + 336u, 0u);
-                                            const word p929 = load16((word)w37);
-                                            store64(frame + 400u, p929);
-                                            store64(frame + 376u, p929);
-                                            const u32 n779 = load16((word)w37 + 2u);
-                                            store64(frame + 432u, n779 ? 16u : 0u);
-                                            store64(frame + 424u, n779 ? p929 + 1u : 0u);
-                                            const word p850 = p836 + (word)w619;
-                                            const u64 w149 = load64(p850);
-                                            const u32 n118 = load16((word)w149 + 2u);
-                                            word p280;
-                                            u64 w538;
-                                            do {
-                                                const u32 n37 = load16((word)w149);
-                                                p280 = (word)n37 & 65535u;
-                                                w538 = (u64)p280 - 8u;
-                                                const u64 w924 = w538 << 5;
-                                                const u64 w620 = w723 << 5;
-                                                const u64 w878 = w620 + w841;
-                                                const u64 w240 = w149 + 264u;
-                                                if (w878 - w240 < w924) {
-                                                    if (w538 != 0u) {
-                                                        u64 w631 = p280 & 3u;
+                                        w353 = w353 - 1u;
+                                        store8(frame + 248u + (word)w353, (u32)(word)w69 & 15u);
+                                        w69 = w69 >> 4;
+                                        w641 = w641 - 1u;
+                                    } while (w641 != 0u);
+                                }
+                                if (w856 >= 3u) {
+                                    do {
+                                        const word p50 = (word)w353 + (frame + 244u);
+                                        const u32 n14 = (u32)(word)w69;
+                                        store8(p50 + 3u, n14 & 15u);
+                                        store8(p50 + 2u, (n14 & 240u) >> 4);
+                                        store8(p50 + 1u, (n14 >> 8) & 15u);
+                                        store8(p50, (n14 >> 12) & 15u);
+                                        w69 = w69 >> 16;
+                                        w353 = w353 - 4u;
+                                    } while (w6 < w353);
+                                }
+                            }
+                            store64(frame + 240u, load64(frame + 256u));
+                            store64(frame + 232u, load64(frame + 248u));
+                            u64 w405 = 16u - w6;
+                            if (w405 >= 2u) {
+                                word p14 = frame + 232u + (word)w6;
+                                word p8 = p382;
+                                u64 w353 = 0;
+                                do {
+                                    w353 = w405;
+                                    w36 = load64(p8);
+                                    u32 n357 = load8(p14);
+                                    const word p698 = (word)n357 & 255u;
+                                    const word p836 = p698 << 3;
+                                    if (load16(load_word(p836 + (word)w36 + 488u)) >= 15u) {
+                                        fill(frame + 248u, 0u, 88u);
+                                        std_collections_btree_node_parts_Parts_new(frame + 248u, p401,
+                                            (u64)load16((word)w36 + 2u) - 1u);
+                                        if (load8(frame + 248u))
+                                            goto L310;
+                                        const u64 w175 = load64(frame + 328u);
+                                        const u64 w432 = load64(frame + 312u);
+                                        const u64 w967 = load64(frame + 304u);
+                                        const u64 w841 = load64(frame + 256u);
+                                        const u64 w723 = load64(frame + 264u);
+                                        const u64 w37 = load64(p8);
+                                        store64(frame + 440u, w37);
+                                        const u64 w619 = w37 + 488u;
+                                        store64(frame + 416u, w619);
+                                        store64(frame + 408u, 15u);
+                                        store64(frame + 392u, w619);
+                                        store64(frame + 384u, 15u);
+                                        store64(frame + 368u, w37 + 8u);
+                                        store64(frame + 360u, 0u);
+                                        store64(frame + 352u, 0u);
+                                        store64(frame + 344u, 0u);
+                                        store64(frame + 336u, 0u);
+                                        const word p929 = load16((word)w37);
+                                        store64(frame + 400u, p929);
+                                        store64(frame + 376u, p929);
+                                        const u32 n779 = load16((word)w37 + 2u);
+                                        store64(frame + 432u, n779 ? 16u : 0u);
+                                        store64(frame + 424u, n779 ? p929 + 1u : 0u);
+                                        const word p850 = p836 + (word)w619;
+                                        const u64 w149 = load64(p850);
+                                        const u32 n118 = load16((word)w149 + 2u);
+                                        word p280;
+                                        u64 w538;
+                                        do {
+                                            const u32 n37 = load16((word)w149);
+                                            p280 = (word)n37 & 65535u;
+                                            w538 = (u64)p280 - 8u;
+                                            const u64 w924 = w538 << 5;
+                                            const u64 w620 = w723 << 5;
+                                            const u64 w878 = w620 + w841;
+                                            const u64 w240 = w149 + 264u;
+                                            if (w878 - w240 < w924) {
+                                                if (w538 != 0u) {
+                                                    u64 w631 = p280 & 3u;
+                                                    u64 w70 = 0u;
+                                                    if (((n37 - 9u) & 65535u) >= 3u) {
+                                                        const u64 w244 = w538 & 18446744073709551612ull;
+                                                        word p69 = 0u;
+                                                        do {
+                                                            const word p267 = (word)w149 + p69;
+                                                            const u64 w936 = load64(p267 + 264u);
+                                                            const u64 w517 = load64(p267 + 272u);
+                                                            const u64 w634 = load64(p267 + 280u);
+                                                            const word p546 = p69 + (word)w878;
+                                                            store64(p546 + 24u, load64(p267 + 288u));
+                                                            store64(p546 + 16u, w634);
+                                                            store64(p546 + 8u, w517);
+                                                            store64(p546, w936);
+                                                            const u64 w375 = load64(p267 + 296u);
+                                                            const u64 w476 = load64(p267 + 304u);
+                                                            const u64 w5 = load64(p267 + 312u);
+                                                            store64(p546 + 56u, load64(p267 + 320u));
+                                                            store64(p546 + 48u, w5);
+                                                            store64(p546 + 40u, w476);
+                                                            store64(p546 + 32u, w375);
+                                                            const u64 w692 = load64(p267 + 328u);
+                                                            const u64 w718 = load64(p267 + 336u);
+                                                            const u64 w236 = load64(p267 + 344u);
+                                                            store64(p546 + 88u, load64(p267 + 352u));
+                                                            store64(p546 + 80u, w236);
+                                                            store64(p546 + 72u, w718);
+                                                            store64(p546 + 64u, w692);
+                                                            const u64 w16 = load64(p267 + 360u);
+                                                            const u64 w323 = load64(p267 + 368u);
+                                                            const u64 w897 = load64(p267 + 376u);
+                                                            store64(p546 + 120u, load64(p267 + 384u));
+                                                            store64(p546 + 112u, w897);
+                                                            store64(p546 + 104u, w323);
+                                                            store64(p546 + 96u, w16);
+                                                            p69 = p69 + 128u;
+                                                            w70 = w70 + 4u;
+                                                        } while (w70 != w244);
+                                                        if (w631 == 0u)
+                                                            break;
+                                                    }
+                                                    const word p305 = (word)w70 << 5;
+                                                    word p152 = p305 + (word)w620 + (word)w841;
+                                                    word p809 = (word)w149 + p305 + 264u;
+                                                    do {
+                                                        const u64 w38 = load64(p809);
+                                                        const u64 w293 = load64(p809 + 8u);
+                                                        const u64 w14 = load64(p809 + 16u);
+                                                        store64(p152 + 24u, load64(p809 + 24u));
+                                                        store64(p152 + 16u, w14);
+                                                        store64(p152 + 8u, w293);
+                                                        store64(p152, w38);
+                                                        p152 = p152 + 32u;
+                                                        p809 = p809 + 32u;
+                                                        w631 = w631 - 1u;
+                                                    } while (w631 != 0u);
+                                                }
+                                            } else if (w924 != 0u) {
+                                                copy((word)w878, (word)w240, (word)w924);
+                                            }
+                                        } while (0);
+                                        store64(frame + 472u, load64((word)w149 + 256u));
+                                        store64(frame + 464u, load64((word)w149 + 248u));
+                                        store64(frame + 456u, load64((word)w149 + 240u));
+                                        store64(frame + 448u, load64((word)w149 + 232u));
+                                        do {
+                                            if (n118 != 0u) {
+                                                const u64 w930 = (u64)p280 - 7u;
+                                                const u64 w55 = w930 << 3;
+                                                const u64 w684 = w432 << 3;
+                                                const u64 w977 = w684 + w967;
+                                                const u64 w310 = w149 + 552u;
+                                                if (w977 - w310 < w55) {
+                                                    if (w930 != 0u) {
+                                                        u64 w641 = (word)w930 & 3u;
                                                         u64 w70 = 0u;
-                                                        if (((n37 - 9u) & 65535u) >= 3u) {
-                                                            const u64 w244 = w538 & 18446744073709551612ull;
+                                                        if (w538 >= 3u) {
+                                                            const u64 w995 = w930 & 18446744073709551612ull;
                                                             word p69 = 0u;
                                                             do {
-                                                                const word p267 = (word)w149 + p69;
-                                                                const u64 w936 = load64(p267 + 264u);
-                                                                const u64 w517 = load64(p267 + 272u);
-                                                                const u64 w634 = load64(p267 + 280u);
-                                                                const word p546 = p69 + (word)w878;
-                                                                store64(p546 + 24u, load64(p267 + 288u));
-                                                                store64(p546 + 16u, w634);
-                                                                store64(p546 + 8u, w517);
-                                                                store64(p546, w936);
-                                                                const u64 w375 = load64(p267 + 296u);
-                                                                const u64 w476 = load64(p267 + 304u);
-                                                                const u64 w5 = load64(p267 + 312u);
-                                                                store64(p546 + 56u, load64(p267 + 320u));
-                                                                store64(p546 + 48u, w5);
-                                                                store64(p546 + 40u, w476);
-                                                                store64(p546 + 32u, w375);
-                                                                const u64 w692 = load64(p267 + 328u);
-                                                                const u64 w718 = load64(p267 + 336u);
-                                                                const u64 w236 = load64(p267 + 344u);
-                                                                store64(p546 + 88u, load64(p267 + 352u));
-                                                                store64(p546 + 80u, w236);
-                                                                store64(p546 + 72u, w718);
-                                                                store64(p546 + 64u, w692);
-                                                                const u64 w16 = load64(p267 + 360u);
-                                                                const u64 w323 = load64(p267 + 368u);
-                                                                const u64 w897 = load64(p267 + 376u);
-                                                                store64(p546 + 120u, load64(p267 + 384u));
-                                                                store64(p546 + 112u, w897);
-                                                                store64(p546 + 104u, w323);
-                                                                store64(p546 + 96u, w16);
-                                                                p69 = p69 + 128u;
-                                                                w70 = w70 + 4u;
-                                                            } while (w70 != w244);
-                                                            if (w631 == 0u)
-                                                                break;
-                                                        }
-                                                        const word p305 = (word)w70 << 5;
-                                                        word p152 = p305 + (word)w620 + (word)w841;
-                                                        word p809 = (word)w149 + p305 + 264u;
-                                                        do {
-                                                            const u64 w38 = load64(p809);
-                                                            const u64 w293 = load64(p809 + 8u);
-                                                            const u64 w14 = load64(p809 + 16u);
-                                                            store64(p152 + 24u, load64(p809 + 24u));
-                                                            store64(p152 + 16u, w14);
-                                                            store64(p152 + 8u, w293);
-                                                            store64(p152, w38);
-                                                            p152 = p152 + 32u;
-                                                            p809 = p809 + 32u;
-                                                            w631 = w631 - 1u;
-                                                        } while (w631 != 0u);
-                                                    }
-                                                } else if (w924 != 0u) {
-                                                    copy((word)w878, (word)w240, (word)w924);
-                                                }
-                                            } while (0);
-                                            store64(frame + 472u, load64((word)w149 + 256u));
-                                            store64(frame + 464u, load64((word)w149 + 248u));
-                                            store64(frame + 456u, load64((word)w149 + 240u));
-                                            store64(frame + 448u, load64((word)w149 + 232u));
-                                            do {
-                                                if (n118 != 0u) {
-                                                    const u64 w930 = (u64)p280 - 7u;
-                                                    const u64 w55 = w930 << 3;
-                                                    const u64 w684 = w432 << 3;
-                                                    const u64 w977 = w684 + w967;
-                                                    const u64 w310 = w149 + 552u;
-                                                    if (w977 - w310 < w55) {
-                                                        if (w930 != 0u) {
-                                                            u64 w641 = (word)w930 & 3u;
-                                                            u64 w70 = 0u;
-                                                            if (w538 >= 3u) {
-                                                                const u64 w995 = w930 & 18446744073709551612ull;
-                                                                word p69 = 0u;
-                                                                do {
                                                                 const word p256 = p69 + (word)w977;
                                                                 const word p267 = (word)w149 + p69;
                                                                 store64(p256, load64(p267 + 552u));
@@ -23338,176 +24042,175 @@ INTERNAL u32 warnings_findings_Findings_add(word self, word warning) {
                                                                 store64(p256 + 24u, load64(p267 + 576u));
                                                                 p69 = p69 + 32u;
                                                                 w70 = w70 + 4u;
-                                                                } while (w70 != w995);
-                                                                if (w641 == 0u)
+                                                            } while (w70 != w995);
+                                                            if (w641 == 0u)
                                                                 break;
-                                                            }
-                                                            const word p157 = (word)w70 << 3;
-                                                            word p430 = p157 + (word)w684 + (word)w967;
-                                                            word p759 = (word)w149 + p157 + 552u;
-                                                            do {
-                                                                store64(p430, load64(p759));
-                                                                p430 = p430 + 8u;
-                                                                p759 = p759 + 8u;
-                                                                w641 = w641 - 1u;
-                                                            } while (w641 != 0u);
                                                         }
-                                                    } else if (w55 != 0u) {
-                                                        copy((word)w977, (word)w310, (word)w55);
+                                                        const word p157 = (word)w70 << 3;
+                                                        word p430 = p157 + (word)w684 + (word)w967;
+                                                        word p759 = (word)w149 + p157 + 552u;
+                                                        do {
+                                                            store64(p430, load64(p759));
+                                                            p430 = p430 + 8u;
+                                                            p759 = p759 + 8u;
+                                                            w641 = w641 - 1u;
+                                                        } while (w641 != 0u);
                                                     }
-                                                }
-                                            } while (0);
-                                            store16((word)w149, 7u);
-                                            store16((word)w175, (u32)((word)w538 + (word)w723));
-                                            store64(p850, w149);
-                                            store64(frame + 336u, load64(frame + 448u));
-                                            store64(frame + 344u, load64(frame + 456u));
-                                            store64(frame + 352u, load64(frame + 464u));
-                                            store64(frame + 360u, load64(frame + 472u));
-                                            std_alloc_vec_lodged_Vec_T_Lodged_insert_reserved(frame + 368u, p698,
-                                                frame + 336u);
-                                            const word p859 = p698 + 1u;
-                                            const word p92 = p859 << 3;
-                                            const word p790 = load_word(frame + 416u);
-                                            const u64 w890 = load64(frame + 424u);
-                                            if (p859 != w890) {
-                                                const u64 w946 = (w890 - p859) << 3;
-                                                if (w946 != 0u) {
-                                                    const word p975 = p790 + p92;
-                                                    copy(p975 + 8u, p975, (word)w946);
+                                                } else if (w55 != 0u) {
+                                                    copy((word)w977, (word)w310, (word)w55);
                                                 }
                                             }
-                                            store64(p790 + p92, w175);
-                                            w36 = load64(frame + 440u);
-                                            store16((word)w36, (u32)load_word(frame + 376u));
-                                            store64(p8, w36);
-                                            const u32 n107 = load8(p14 + 1u);
-                                            if (n107 <= 7u) {
-                                                n357 = load8(p14);
-                                            } else {
-                                                store8(p14 + 1u, n107 - 8u);
-                                                n357 = n357 + 1u;
-                                                store8(p14, n357);
+                                        } while (0);
+                                        store16((word)w149, 7u);
+                                        store16((word)w175, (u32)((word)w538 + (word)w723));
+                                        store64(p850, w149);
+                                        store64(frame + 336u, load64(frame + 448u));
+                                        store64(frame + 344u, load64(frame + 456u));
+                                        store64(frame + 352u, load64(frame + 464u));
+                                        store64(frame + 360u, load64(frame + 472u));
+                                        std_alloc_vec_lodged_Vec_T_Lodged_insert_reserved(frame + 368u, p698, frame
+                                            + 336u);
+                                        const word p859 = p698 + 1u;
+                                        const word p92 = p859 << 3;
+                                        const word p790 = load_word(frame + 416u);
+                                        const u64 w890 = load64(frame + 424u);
+                                        if (p859 != w890) {
+                                            const u64 w946 = (w890 - p859) << 3;
+                                            if (w946 != 0u) {
+                                                const word p975 = p790 + p92;
+                                                copy(p975 + 8u, p975, (word)w946);
                                             }
                                         }
-                                        w405 = w353 - 1u;
-                                        p14 = p14 + 1u;
-                                        p68 = (word)n357 & 255u;
-                                        p8 = (p68 << 3) + (word)w36 + 488u;
-                                    } while (w353 > 2u);
-                                    w174 = load64(p382);
-                                }
-                                if (load16((word)w174) == 0u)
-                                    goto L558;
-                                if (load8(self + 32u) != 1u) {
-                                    trap();
-                                }
-                                w69 = load8(frame + 247u);
-                                w703 = w100 - w6;
-                                p156 = p68 << 3;
+                                        store64(p790 + p92, w175);
+                                        w36 = load64(frame + 440u);
+                                        store16((word)w36, (u32)load_word(frame + 376u));
+                                        store64(p8, w36);
+                                        const u32 n107 = load8(p14 + 1u);
+                                        if (n107 <= 7u) {
+                                            n357 = load8(p14);
+                                        } else {
+                                            store8(p14 + 1u, n107 - 8u);
+                                            n357 = n357 + 1u;
+                                            store8(p14, n357);
+                                        }
+                                    }
+                                    w405 = w353 - 1u;
+                                    p14 = p14 + 1u;
+                                    p68 = (word)n357 & 255u;
+                                    p8 = (p68 << 3) + (word)w36 + 488u;
+                                } while (w353 > 2u);
+                                w174 = load64(p382);
                             }
-                            store64(frame + 392u, w167);
-                            store64(frame + 384u, w286);
-                            store64(frame + 376u, w301);
-                            store64(frame + 368u, w840);
-                            const word p253 = w703 == 1u ? p382 : p156 + (word)w36 + 488u;
-                            const u64 w205 = load64(p253);
-                            store64(frame + 320u, w205);
-                            const u64 w512 = w205 + 488u;
-                            store64(frame + 296u, w512);
-                            store64(frame + 288u, 15u);
-                            store64(frame + 272u, w512);
-                            store64(frame + 264u, 15u);
-                            store64(frame + 248u, w205 + 8u);
-                            const word p82 = load16((word)w205);
-                            store64(frame + 280u, p82);
-                            store64(frame + 256u, p82);
-                            const u32 n413 = load16((word)w205 + 2u);
-                            store64(frame + 312u, n413 ? 16u : 0u);
-                            store64(frame + 304u, n413 ? p82 + 1u : 0u);
-                            std_alloc_vec_lodged_Vec_T_Lodged_insert_reserved(frame + 248u, (word)w69 & 15u, frame +
-                                368u);
-                            const u64 w810 = load64(frame + 320u);
-                            store16((word)w810, (u32)load_word(frame + 256u));
-                            store64(p253, w810);
-                            const word p891 = self + 48u;
-                            store64(p891, load64(p891) + 1u);
-                            goto L387;
-                        }
-                    L310:;
-                        w174 = load64(p382);
-                        if (load16((word)w174))
-                            break;
-                    }
-                L558:;
-                    if (load16((word)w174 + 2u) != 0u) {
-                        const u64 w413 = load64((word)w174 + 488u);
-                        const word p189 = load_word(p401);
-                        if (load64(p189 + 32u) == 1u) {
-                            const word p166 = load_word(p189 + 24u);
-                            const u64 w394 = load64(p166 + 32u);
-                            if (load64(p166) + w394 == w174) {
-                                store64(p166 + 32u, w394 + 616u);
+                            if (load16((word)w174) == 0u)
+                                goto L558;
+                            if (load8(self + 32u) != 1u) {
+                                trap();
                             }
+                            w69 = load8(frame + 247u);
+                            w703 = w100 - w6;
+                            p156 = p68 << 3;
                         }
-                        const word p11 = p189 + 40u;
-                        store64(p11, load64(p11) - 1u);
-                        store64(p382, w413);
+                        store64(frame + 392u, w167);
+                        store64(frame + 384u, w286);
+                        store64(frame + 376u, w301);
+                        store64(frame + 368u, w840);
+                        const word p253 = w703 == 1u ? p382 : p156 + (word)w36 + 488u;
+                        const u64 w205 = load64(p253);
+                        store64(frame + 320u, w205);
+                        const u64 w512 = w205 + 488u;
+                        store64(frame + 296u, w512);
+                        store64(frame + 288u, 15u);
+                        store64(frame + 272u, w512);
+                        store64(frame + 264u, 15u);
+                        store64(frame + 248u, w205 + 8u);
+                        const word p82 = load16((word)w205);
+                        store64(frame + 280u, p82);
+                        store64(frame + 256u, p82);
+                        const u32 n413 = load16((word)w205 + 2u);
+                        store64(frame + 312u, n413 ? 16u : 0u);
+                        store64(frame + 304u, n413 ? p82 + 1u : 0u);
+                        std_alloc_vec_lodged_Vec_T_Lodged_insert_reserved(frame + 248u, (word)w69 & 15u, frame + 368u);
+                        const u64 w810 = load64(frame + 320u);
+                        store16((word)w810, (u32)load_word(frame + 256u));
+                        store64(p253, w810);
+                        const word p891 = self + 48u;
+                        store64(p891, load64(p891) + 1u);
+                        store64(frame + 48u, load64(frame + 224u));
+                        store64(frame + 40u, load64(frame + 216u));
+                        store64(frame + 32u, load64(frame + 208u));
+                        store64(frame + 24u, load64(frame + 200u));
+                        store8(frame + 56u, n978);
+                        store64(frame + 57u, load64(frame + 184u));
+                        store64(frame + 64u, load64(frame + 191u));
+                        store64(frame + 96u, w574);
+                        store64(frame + 88u, w292);
+                        store64(frame + 80u, w235);
+                        store64(frame + 72u, w796);
+                        n216 = warnings_findings_count(self, frame + 24u) & 255u;
+                        return n216;
                     }
+                L310:;
+                    w174 = load64(p382);
+                    if (load16((word)w174))
+                        break;
                 }
-            } while (0);
-            if (w286 != 0u) {
-                if (load64((word)w167 + 32u) == 1u) {
-                    const word p906 = load_word((word)w167 + 24u);
-                    const u64 w168 = load64(p906 + 32u);
-                    if (load64(p906) + w168 == w840) {
-                        store64(p906 + 32u, w168 + w286);
+            L558:;
+                if (load16((word)w174 + 2u) != 0u) {
+                    const u64 w413 = load64((word)w174 + 488u);
+                    const word p189 = load_word(p401);
+                    if (load64(p189 + 32u) == 1u) {
+                        const word p166 = load_word(p189 + 24u);
+                        const u64 w394 = load64(p166 + 32u);
+                        if (load64(p166) + w394 == w174) {
+                            store64(p166 + 32u, w394 + 616u);
+                        }
                     }
+                    const word p11 = p189 + 40u;
+                    store64(p11, load64(p11) - 1u);
+                    store64(p382, w413);
                 }
-                const word p37 = (word)w167 + 40u;
-                store64(p37, load64(p37) - 1u);
             }
+        } while (0);
+        if (w286 != 0u) {
+            if (load64((word)w167 + 32u) == 1u) {
+                const word p906 = load_word((word)w167 + 24u);
+                const u64 w168 = load64(p906 + 32u);
+                if (load64(p906) + w168 == w840) {
+                    store64(p906 + 32u, w168 + w286);
+                }
+            }
+            const word p37 = (word)w167 + 40u;
+            store64(p37, load64(p37) - 1u);
         }
-        n216 = 1u;
-        if (w292 == 0u) {
-            return n216;
-        }
-        word p97;
-        if (load64((word)w574 + 32u) != 1u) {
-            p97 = (word)w574 + 40u;
-            store64(p97, load64(p97) - 1u);
-            return n216;
-        }
-        const word p108 = load_word((word)w574 + 24u);
-        const u64 w26 = load64(p108 + 32u);
-        if (load64(p108) + w26 != w796) {
-            p97 = (word)w574 + 40u;
-            store64(p97, load64(p97) - 1u);
-            return n216;
-        }
-        store64(p108 + 32u, w26 + w292);
+    }
+    n216 = 1u;
+    if (w292 == 0u) {
+        return n216;
+    }
+    word p97;
+    if (load64((word)w574 + 32u) != 1u) {
         p97 = (word)w574 + 40u;
         store64(p97, load64(p97) - 1u);
         return n216;
-    } while (0);
-L387:;
-    store64(frame + 48u, load64(frame + 224u));
-    store64(frame + 40u, load64(frame + 216u));
-    store64(frame + 32u, load64(frame + 208u));
-    store64(frame + 24u, load64(frame + 200u));
-    store8(frame + 56u, n978);
-    store64(frame + 57u, load64(frame + 184u));
-    store64(frame + 64u, load64(frame + 191u));
-    store64(frame + 96u, w574);
-    store64(frame + 88u, w292);
-    store64(frame + 80u, w235);
-    store64(frame + 72u, w796);
-    n216 = warnings_findings_count(self, frame + 24u) & 255u;
+    }
+    const word p108 = load_word((word)w574 + 24u);
+    const u64 w26 = load64(p108 + 32u);
+    if (load64(p108) + w26 != w796) {
+        p97 = (word)w574 + 40u;
+        store64(p97, load64(p97) - 1u);
+        return n216;
+    }
+    store64(p108 + 32u, w26 + w292);
+    p97 = (word)w574 + 40u;
+    store64(p97, load64(p97) - 1u);
     return n216;
 }
+#endif
+
+#if UNITS & 0x80
 
 /* trac_warnings::findings::count::<#f933f01a1e4bfb09>. */
-static u32 warnings_findings_count(word counts, word warning) {
+INTERNAL u32 warnings_findings_count(word counts, word warning) {
     u64 room[98];
     const word frame = (word)room;
     word p68 = 0u;
@@ -24298,6 +25001,9 @@ static u32 warnings_findings_count(word counts, word warning) {
     n216 = 0u;
     return n216;
 }
+#endif
+
+#if UNITS & 0x40
 
 /* trac_warnings::inside::stands_so. */
 static INLINE u32 warnings_inside_stands_so(u32 joined, word text, u64 text_len, word items, u64 items_len) {
@@ -24705,7 +25411,7 @@ L883:;
 }
 #endif
 
-#if UNITS & 0x40
+#if UNITS & 0x20
 
 /* Whether a call of `cl` without an argument, for the form of a name, stands in the input. */
 static INLINE u32 warnings_names_is_called_alone(word name, u64 name_len, word input, u64 input_len) {
@@ -24783,7 +25489,7 @@ static INLINE u32 warnings_names_is_called_alone(word name, u64 name_len, word i
 }
 #endif
 
-#if UNITS & 0x20
+#if UNITS & 0x40
 
 /* trac_warnings::operands::look_at_numbers::<#f933f01a1e4bfb09>. */
 static u32 warnings_operands_look_at_numbers(word a1, u64 a2, word a3, word a4) {
@@ -25002,268 +25708,172 @@ static void warnings_operands_operand_among(word result, word machine, word cell
     store8(result + 1u, n91);
     store8(result, n216);
 }
-#endif
-
-#if UNITS & 0x40
 
 /* trac_warnings::operands::look_at_both::<#f933f01a1e4bfb09>. */
-INTERNAL u32 warnings_operands_look_at_both(word a1, u64 a2, word a3) {
+static u32 warnings_operands_look_at_both(word a1, u64 a2, word a3) {
     u64 room[8];
     const word frame = (word)room;
     u64 w68 = 0u;
     u64 w69 = 0u;
     u64 w70 = 0u;
-    u64 w679;
-    u64 w759;
-    u64 w71;
+    store64(frame + 56u, 0u);
+    store64(frame + 48u, 0u);
+    store64(frame + 40u, 0u);
+    store64(frame + 32u, 0u);
+    const u64 w136 = load64(a3);
+    u64 w116;
+    u32 n695;
+    {
+        w116 = load64(a3 + 8u);
+        n695 = w116 == 0u;
+        if (n695 == 0u) {
+            word p136 = (word)w136;
+            while (load8(p136) != 2u) {
+                p136 = p136 + 8u;
+                w70 = w70 + 1u;
+                if (w70 == w116) {
+                    w70 = w116;
+                    break;
+                }
+            }
+        }
+    }
+    const u64 w301 = w70 + 1u;
+    const u32 n366 = w70 >= w116;
+    const u64 w679 = n366 ? TABLES + 5032u : (w301 << 3) + w136;
+    {
+        if (n366 == 0u) {
+            const u64 w753 = w116 - w301;
+            if (w753 != 0u) {
+                word p358 = (word)w679;
+                while (load8(no_address(p358, 1u)) != 2u) {
+                    p358 = p358 + 8u;
+                    w68 = w68 + 1u;
+                    if (w68 == w753) {
+                        w68 = w753;
+                        break;
+                    }
+                }
+            }
+        }
+    }
+    u64 w71 = 0u;
+    {
+        if (n695 == 0u) {
+            word p136 = (word)w136;
+            while (load8(p136) != 2u) {
+                p136 = p136 + 8u;
+                w69 = w69 + 1u;
+                if (w69 == w116) {
+                    w69 = w116;
+                    break;
+                }
+            }
+        }
+    }
+    const u64 w302 = w69 + 1u;
+    const u32 n811 = w69 < w116;
+    const u64 w449 = n811 ? (w302 << 3) + w136 : TABLES + 5032u;
+    u64 w362;
+    {
+        const u64 w753 = w116 - w302;
+        w362 = n811 ? w753 : 0u;
+        if (w362 != 0u) {
+            word p655 = (word)w449;
+            while (load8(no_address(p655, 1u)) != 2u) {
+                p655 = p655 + 8u;
+                w71 = w71 + 1u;
+                if (w71 == w362) {
+                    w71 = w753;
+                    break;
+                }
+            }
+        }
+    }
+    const u64 w303 = w71 + 1u;
+    const u32 n308 = w71 >= w362;
+    u64 w759 = n308 ? TABLES + 5032u : (w303 << 3) + w449;
+    u64 w72 = 0u;
+    {
+        if (n308 == 0u) {
+            const u64 w966 = w362 - w303;
+            if (w966 != 0u) {
+                word p353 = (word)w759;
+                while (load8(no_address(p353, 1u)) != 2u) {
+                    p353 = p353 + 8u;
+                    w72 = w72 + 1u;
+                    if (w72 == w966) {
+                        w72 = w966;
+                        break;
+                    }
+                }
+            }
+        }
+    }
+    u64 w353 = w72;
     u32 n121;
     u32 n423;
     u32 n216;
     do {
-        u64 w358;
-        u64 w72;
         {
-            {
-                {
-                    store64(frame + 56u, 0u);
-                    store64(frame + 48u, 0u);
-                    store64(frame + 40u, 0u);
-                    store64(frame + 32u, 0u);
-                    const u64 w136 = load64(a3);
-                    u64 w116;
-                    u32 n695;
-                    {
-                        w116 = load64(a3 + 8u);
-                        n695 = w116 == 0u;
-                        if (n695 == 0u) {
-                            word p136 = (word)w136;
-                            while (load8(p136) != 2u) {
-                                p136 = p136 + 8u;
-                                w70 = w70 + 1u;
-                                if (w70 == w116) {
-                                    w70 = w116;
-                                    break;
-                                }
-                            }
-                        }
+            n121 = w68 == 0u;
+            if (n121 == 0u) {
+                w353 = w72 - w68;
+                word p358 = (word)w679;
+                u64 w354 = w68;
+                word p353 = (word)w759;
+                u64 w355 = w72;
+                do {
+                    if (w355 == 0u)
+                        goto L113;
+                    u32 n217 = 0u;
+                    if (load8(no_address(p358, 1u)) == 0u) {
+                        n217 = load8(no_address(p358 + 1u, 1u));
                     }
-                    const u64 w301 = w70 + 1u;
-                    const u32 n366 = w70 >= w116;
-                    w679 = n366 ? TABLES + 5032u : (w301 << 3) + w136;
-                    {
-                        if (n366 == 0u) {
-                            const u64 w753 = w116 - w301;
-                            if (w753 != 0u) {
-                                word p358 = (word)w679;
-                                while (load8(no_address(p358, 1u)) != 2u) {
-                                    p358 = p358 + 8u;
-                                    w68 = w68 + 1u;
-                                    if (w68 == w753) {
-                                        w68 = w753;
-                                        break;
-                                    }
-                                }
-                            }
-                        }
+                    u32 n218;
+                    if (load8(no_address(p353, 1u))) {
+                        n218 = 0u;
+                    } else {
+                        n218 = load8(no_address(p353 + 1u, 1u));
                     }
-                    u64 w73 = 0u;
-                    {
-                        if (n695 == 0u) {
-                            word p136 = (word)w136;
-                            while (load8(p136) != 2u) {
-                                p136 = p136 + 8u;
-                                w69 = w69 + 1u;
-                                if (w69 == w116) {
-                                    w69 = w116;
-                                    break;
-                                }
-                            }
-                        }
-                    }
-                    const u64 w302 = w69 + 1u;
-                    const u32 n811 = w69 < w116;
-                    const u64 w449 = n811 ? (w302 << 3) + w136 : TABLES + 5032u;
-                    u64 w362;
-                    {
-                        const u64 w753 = w116 - w302;
-                        w362 = n811 ? w753 : 0u;
-                        if (w362 != 0u) {
-                            word p655 = (word)w449;
-                            while (load8(no_address(p655, 1u)) != 2u) {
-                                p655 = p655 + 8u;
-                                w73 = w73 + 1u;
-                                if (w73 == w362) {
-                                    w73 = w753;
-                                    break;
-                                }
-                            }
-                        }
-                    }
-                    const u64 w303 = w73 + 1u;
-                    const u32 n308 = w73 >= w362;
-                    w759 = n308 ? TABLES + 5032u : (w303 << 3) + w449;
-                    w71 = 0u;
-                    {
-                        if (n308 == 0u) {
-                            const u64 w966 = w362 - w303;
-                            if (w966 != 0u) {
-                                word p353 = (word)w759;
-                                while (load8(no_address(p353, 1u)) != 2u) {
-                                    p353 = p353 + 8u;
-                                    w71 = w71 + 1u;
-                                    if (w71 == w966) {
-                                        w71 = w966;
-                                        break;
-                                    }
-                                }
-                            }
-                        }
-                    }
-                    u64 w353 = w71;
-                    {
-                        n121 = w68 == 0u;
-                        if (n121 == 0u) {
-                            w353 = w71 - w68;
-                            word p358 = (word)w679;
-                            u64 w354 = w68;
-                            word p353 = (word)w759;
-                            u64 w355 = w71;
-                            do {
-                                if (w355 == 0u)
-                                    goto L368;
-                                u32 n217 = 0u;
-                                if (load8(no_address(p358, 1u)) == 0u) {
-                                    n217 = load8(no_address(p358 + 1u, 1u));
-                                }
-                                u32 n218;
-                                if (load8(no_address(p353, 1u))) {
-                                    n218 = 0u;
-                                } else {
-                                    n218 = load8(no_address(p353 + 1u, 1u));
-                                }
-                                if (n218 != n217)
-                                    goto L368;
-                                p358 = p358 + 8u;
-                                p353 = p353 + 8u;
-                                w355 = w355 - 1u;
-                                w354 = w354 - 1u;
-                            } while (w354 != 0u);
-                        }
-                        if (w353 == 0u)
-                            break;
-                    }
-                L368:;
-                    if (n121 == 0u) {
-                        word p156 = (word)w68 << 3;
-                        w358 = w679;
-                        w72 = w68;
-                        for (;;) {
-                            if (load8(no_address((word)w358, 1u)) == 0u) {
-                                const word p567 = load8(no_address((word)w358 + 1u, 1u));
-                                if (p567 <= 32u) {
-                                    if ((((u64)1u << (p567 & 63u)) & 4294977024ull) != 0u) {
-                                        w358 = w358 + 8u;
-                                        p156 = p156 - 8u;
-                                        w72 = w72 - 1u;
-                                        if (w72 != 0u)
-                                            continue;
-                                        break;
-                                    }
-                                }
-                            }
-                            if (w72 == 0u) {
-                                w72 = 0u;
-                                goto L838;
-                            }
-                            const word p596 = (word)w358 + p156;
-                            if (load8(no_address(p596 - 8u, 1u)))
-                                goto L369;
-                            const word p297 = load8(no_address(p596 - 7u, 1u));
-                            if (p297 > 32u)
-                                goto L369;
-                            if ((((u64)1u << (p297 & 63u)) & 4294977024ull) == 0u)
-                                goto L369;
-                            goto L838;
-                        }
-                    }
-                }
-                w358 = TABLES + 5032u;
-                w72 = 0u;
+                    if (n218 != n217)
+                        goto L113;
+                    p358 = p358 + 8u;
+                    p353 = p353 + 8u;
+                    w355 = w355 - 1u;
+                    w354 = w354 - 1u;
+                } while (w354 != 0u);
             }
-        L838:;
-            warnings_blanks_before_last_blanks(frame + 16u, no_address((word)w358, 1u), w72);
-            w72 = load64(frame + 24u);
-            w358 = load64(frame + 16u);
+            if (w353 == 0u)
+                break;
         }
-    L369:;
-        if (w72 != 0u) {
-            u64 w353;
-            u64 w73;
-            {
-                {
-                    {
-                        if (w71 != 0u) {
-                            word p156 = (word)w71 << 3;
-                            w353 = w759;
-                            w73 = w71;
-                            for (;;) {
-                                if (load8(no_address((word)w353, 1u)) == 0u) {
-                                    const word p567 = load8(no_address((word)w353 + 1u, 1u));
-                                    if (p567 <= 32u) {
-                                        if ((((u64)1u << (p567 & 63u)) & 4294977024ull) != 0u) {
-                                            w353 = w353 + 8u;
-                                            p156 = p156 - 8u;
-                                            w73 = w73 - 1u;
-                                            if (w73 != 0u)
-                                                continue;
-                                            break;
-                                        }
-                                    }
-                                }
-                                if (w73 == 0u) {
-                                    w73 = 0u;
-                                    goto L172;
-                                }
-                                const word p596 = (word)w353 + p156;
-                                if (load8(no_address(p596 - 8u, 1u)))
-                                    goto L131;
-                                const word p297 = load8(no_address(p596 - 7u, 1u));
-                                if (p297 > 32u)
-                                    goto L131;
-                                if ((((u64)1u << (p297 & 63u)) & 4294977024ull) == 0u)
-                                    goto L131;
-                                goto L172;
-                            }
-                        }
-                    }
-                    w353 = TABLES + 5032u;
-                    w73 = 0u;
-                }
-            L172:;
-                warnings_blanks_before_last_blanks(frame, no_address((word)w353, 1u), w73);
-                w73 = load64(frame + 8u);
-                w353 = load64(frame);
-            }
-        L131:;
-            u64 w74 = 0u;
-            while (w74 != w73) {
+    L113:;
+        warnings_blanks_trimmed(frame + 16u, w679, w68);
+        const u64 w502 = load64(frame + 24u);
+        if (w502 != 0u) {
+            word p376 = load_word(frame + 16u);
+            warnings_blanks_trimmed(frame, no_address((word)w759, 1u), w72);
+            u64 w73 = 0u;
+            const u64 w464 = load64(frame + 8u);
+            word p642 = load_word(frame);
+            while (w464 != w73) {
                 u32 n217 = 0u;
-                if (load8(no_address((word)w358, 1u)) == 0u) {
-                    n217 = load8(no_address((word)w358 + 1u, 1u));
+                if (load8(p376) == 0u) {
+                    n217 = load8(p376 + 1u);
                 }
                 u32 n218;
-                if (load8(no_address((word)w353, 1u))) {
+                if (load8(p642)) {
                     n218 = 0u;
                 } else {
-                    n218 = load8(no_address((word)w353 + 1u, 1u));
+                    n218 = load8(p642 + 1u);
                 }
                 if (n218 != n217)
                     break;
-                w358 = w358 + 8u;
-                w353 = w353 + 8u;
-                w74 = w74 + 1u;
-                if (w72 == w74) {
-                    if (w72 != w73)
+                p376 = p376 + 8u;
+                p642 = p642 + 8u;
+                w73 = w73 + 1u;
+                if (w502 == w73) {
+                    if (w464 != w502)
                         break;
                     n423 = 22u;
                     store64(frame + 32u, load64(a3 + 16u));
@@ -25276,16 +25886,16 @@ INTERNAL u32 warnings_operands_look_at_both(word a1, u64 a2, word a3) {
             }
         }
     } while (0);
-    u64 w353 = w71;
+    u64 w354 = w72;
     {
         if (n121 == 0u) {
-            w353 = w71 - w68;
+            w354 = w72 - w68;
             word p358 = (word)w679;
-            u64 w354 = w68;
+            u64 w355 = w68;
             word p353 = (word)w759;
-            u64 w355 = w71;
+            u64 w356 = w72;
             do {
-                if (w355 == 0u)
+                if (w356 == 0u)
                     goto L955;
                 u32 n217 = 0u;
                 if (load8(no_address(p358, 1u)) == 0u) {
@@ -25301,26 +25911,26 @@ INTERNAL u32 warnings_operands_look_at_both(word a1, u64 a2, word a3) {
                     goto L955;
                 p358 = p358 + 8u;
                 p353 = p353 + 8u;
+                w356 = w356 - 1u;
                 w355 = w355 - 1u;
-                w354 = w354 - 1u;
-            } while (w354 != 0u);
+            } while (w355 != 0u);
         }
-        if (w353 == 0u) {
+        if (w354 == 0u) {
             n216 = 0u;
             return n216;
         }
     }
 L955:;
-    u64 w354;
+    u64 w355;
     if (n121) {
-        w354 = w71;
+        w355 = w72;
     } else {
-        const u64 w703 = w71 - w68;
+        const u64 w703 = w72 - w68;
         word p358 = (word)w679;
-        u64 w355 = w68;
+        u64 w356 = w68;
         do {
             n216 = 0u;
-            if (w71 == 0u) {
+            if (w72 == 0u) {
                 return n216;
             }
             u32 n217 = 0u;
@@ -25339,13 +25949,13 @@ L955:;
             }
             p358 = p358 + 8u;
             w759 = w759 + 8u;
-            w71 = w71 - 1u;
-            w355 = w355 - 1u;
-        } while (w355 != 0u);
-        w354 = w703;
+            w72 = w72 - 1u;
+            w356 = w356 - 1u;
+        } while (w356 != 0u);
+        w355 = w703;
     }
     n216 = 0u;
-    if (w354 != 0u) {
+    if (w355 != 0u) {
         return n216;
     }
     n423 = 23u;
@@ -25356,9 +25966,6 @@ L955:;
     n216 = warnings_performed_warn(a1, a2, n423, frame + 32u, (word)w679, w68) & 255u;
     return n216;
 }
-#endif
-
-#if UNITS & 0x20
 
 /* trac_warnings::operands::parts_number. */
 static u32 warnings_operands_parts_number(word arguments, u64 arguments_len) {
@@ -26145,174 +26752,129 @@ static u32 warnings_performed_look_at_missing(word warnings, u64 alloc, word mac
     u64 room[14];
     const word frame = (word)room;
     u32 n167;
-    u64 w134;
-    u64 w68;
+    u32 n162;
     {
+        store64(frame + 48u, 0u);
+        store64(frame + 40u, 0u);
+        store64(frame + 32u, 0u);
+        store64(frame + 24u, 0u);
+        word p491 = load_word(ending);
+        u64 w77 = load64(ending + 8u);
+        store32(frame + 88u, 0u);
+        store64(frame + 80u, 0u);
+        store64(frame + 72u, 0u);
+        store64(frame + 64u, 0u);
+        language_table_traits_of(frame + 64u, function);
         {
-            {
-                store64(frame + 48u, 0u);
-                store64(frame + 40u, 0u);
-                store64(frame + 32u, 0u);
-                store64(frame + 24u, 0u);
-                word p491 = load_word(ending);
-                u64 w77 = load64(ending + 8u);
-                store32(frame + 88u, 0u);
-                store64(frame + 80u, 0u);
-                store64(frame + 72u, 0u);
-                store64(frame + 64u, 0u);
-                language_table_traits_of(frame + 64u, function);
-                {
-                    if (load8(frame + 76u) == 1u) {
-                        const u32 n591 = load32(frame + 80u);
-                        if (n591) {
-                            u32 n216 = 0u;
-                            do {
-                                u64 w69 = 0u;
-                                {
-                                    if (w77 != 0u) {
-                                        word p353 = p491;
-                                        while (load8(no_address(p353, 1u)) != 2u) {
-                                            p353 = p353 + 8u;
-                                            w69 = w69 + 1u;
-                                            if (w77 == w69) {
-                                                w69 = w77;
-                                                break;
-                                            }
-                                        }
+            if (load8(frame + 76u) == 1u) {
+                const u32 n591 = load32(frame + 80u);
+                if (n591) {
+                    u32 n216 = 0u;
+                    do {
+                        u64 w68 = 0u;
+                        {
+                            if (w77 != 0u) {
+                                word p353 = p491;
+                                while (load8(no_address(p353, 1u)) != 2u) {
+                                    p353 = p353 + 8u;
+                                    w68 = w68 + 1u;
+                                    if (w77 == w68) {
+                                        w68 = w77;
+                                        break;
                                     }
                                 }
-                                const u64 w301 = w69 + 1u;
-                                const u32 n909 = w69 < w77;
-                                w77 = n909 ? w77 - w301 : 0u;
-                                p491 = n909 ? ((word)w301 << 3) + p491 : TABLES + 5032u;
-                                n216 = n216 + 1u;
-                            } while (n216 != n591);
-                        }
-                        if (w77 != 0u) {
-                            u64 w69 = 0u;
-                            for (;;) {
-                                if (load8(no_address(p491, 1u)) == 2u) {
-                                    if (w69 == 0u)
-                                        break;
-                                    n167 = 0u;
-                                    return n167;
-                                }
-                                p491 = p491 + 8u;
-                                w69 = w69 + 1u;
-                                if (w77 == w69) {
-                                    n167 = 0u;
-                                    return n167;
-                                }
                             }
                         }
-                    }
+                        const u64 w301 = w68 + 1u;
+                        const u32 n909 = w68 < w77;
+                        w77 = n909 ? w77 - w301 : 0u;
+                        p491 = n909 ? ((word)w301 << 3) + p491 : TABLES + 5032u;
+                        n216 = n216 + 1u;
+                    } while (n216 != n591);
                 }
-                word p153 = load_word(ending + 64u);
-                const u64 w191 = load64(ending + 72u);
-                store32(frame + 88u, 0u);
-                store64(frame + 80u, 0u);
-                store64(frame + 72u, 0u);
-                store64(frame + 64u, 0u);
-                store8(frame + 62u, 0u);
-                store16(frame + 60u, 0u);
-                do {
-                    if (w191 >= 2u) {
-                        if (w191 != 2u) {
-                            if (load8(p153 + 16u) != 2u)
-                                break;
-                        }
-                        functions_function_function_of(frame + 60u, p153, p153 + 8u);
-                        if (load8(frame + 60u) == 1u) {
-                            language_table_traits_of(frame + 64u, load8(frame + 61u));
-                            if (load8(frame + 84u) == 1u) {
-                                u64 w10 = w191 & 18446744073709551614ull;
-                                const word p466 = (word)w191 & 1u;
-                                u32 n216 = 0u;
-                                do {
-                                    const u32 n630 = n216 + 1u;
-                                    const u32 n350 = load8(p153) == 2u ? (n630 ? n630 : 4294967295u) : n216;
-                                    const u32 n785 = n350 + 1u;
-                                    n216 = load8(p153 + 8u) == 2u ? (n785 ? n785 : 4294967295u) : n350;
-                                    p153 = p153 + 16u;
-                                    w10 = w10 - 2u;
-                                } while (w10 != 0u);
-                                u32 n91;
-                                if (p466 == 0u) {
-                                    n91 = n216;
-                                } else {
-                                    const u32 n630 = n216 + 1u;
-                                    n91 = load8(p153) == 2u ? (n630 ? n630 : 4294967295u) : n216;
-                                }
-                                if (n91 < 3u) {
-                                    n167 = 0u;
-                                    return n167;
-                                }
-                            }
-                        }
-                    }
-                } while (0);
-                if (name_len != 0u) {
-                    word p621 = (word)name_len << 3;
-                    w134 = name;
-                    w68 = name_len;
+                if (w77 != 0u) {
+                    u64 w68 = 0u;
                     for (;;) {
-                        if (load8(no_address((word)w134, 1u)) == 0u) {
-                            const word p567 = load8(no_address((word)w134 + 1u, 1u));
-                            if (p567 <= 32u) {
-                                if ((((u64)1u << (p567 & 63u)) & 4294977024ull) != 0u) {
-                                    w134 = w134 + 8u;
-                                    p621 = p621 - 8u;
-                                    w68 = w68 - 1u;
-                                    if (w68 != 0u)
-                                        continue;
-                                    break;
-                                }
-                            }
+                        if (load8(no_address(p491, 1u)) == 2u) {
+                            if (w68 == 0u)
+                                break;
+                            n167 = 0u;
+                            return n167;
                         }
-                        if (w68 == 0u) {
-                            w68 = 0u;
-                            goto L549;
+                        p491 = p491 + 8u;
+                        w68 = w68 + 1u;
+                        if (w77 == w68) {
+                            n167 = 0u;
+                            return n167;
                         }
-                        const word p596 = (word)w134 + p621;
-                        if (load8(no_address(p596 - 8u, 1u)))
-                            goto L926;
-                        const word p297 = load8(no_address(p596 - 7u, 1u));
-                        if (p297 > 32u)
-                            goto L926;
-                        if ((((u64)1u << (p297 & 63u)) & 4294977024ull) == 0u)
-                            goto L926;
-                        goto L549;
                     }
                 }
             }
-            w134 = TABLES + 5032u;
-            w68 = 0u;
         }
-    L549:;
-        warnings_blanks_before_last_blanks(frame + 8u, no_address((word)w134, 1u), w68);
-        w68 = load64(frame + 16u);
-        w134 = load64(frame + 8u);
-    }
-L926:;
-    store64(frame + 104u, 0u);
-    store64(frame + 96u, 0u);
-    store64(frame + 88u, 0u);
-    store64(frame + 80u, 0u);
-    store64(frame + 72u, 0u);
-    store64(frame + 64u, 0u);
-    word p353 = (word)w134;
-    u64 w353 = w68;
-    u32 n162;
-    {
-        if (w68 != 0u) {
+        word p153 = load_word(ending + 64u);
+        const u64 w191 = load64(ending + 72u);
+        store32(frame + 88u, 0u);
+        store64(frame + 80u, 0u);
+        store64(frame + 72u, 0u);
+        store64(frame + 64u, 0u);
+        store8(frame + 62u, 0u);
+        store16(frame + 60u, 0u);
+        do {
+            if (w191 >= 2u) {
+                if (w191 != 2u) {
+                    if (load8(p153 + 16u) != 2u)
+                        break;
+                }
+                functions_function_function_of(frame + 60u, p153, p153 + 8u);
+                if (load8(frame + 60u) == 1u) {
+                    language_table_traits_of(frame + 64u, load8(frame + 61u));
+                    if (load8(frame + 84u) == 1u) {
+                        u64 w10 = w191 & 18446744073709551614ull;
+                        const word p466 = (word)w191 & 1u;
+                        u32 n216 = 0u;
+                        do {
+                            const u32 n630 = n216 + 1u;
+                            const u32 n350 = load8(p153) == 2u ? (n630 ? n630 : 4294967295u) : n216;
+                            const u32 n785 = n350 + 1u;
+                            n216 = load8(p153 + 8u) == 2u ? (n785 ? n785 : 4294967295u) : n350;
+                            p153 = p153 + 16u;
+                            w10 = w10 - 2u;
+                        } while (w10 != 0u);
+                        u32 n91;
+                        if (p466 == 0u) {
+                            n91 = n216;
+                        } else {
+                            const u32 n630 = n216 + 1u;
+                            n91 = load8(p153) == 2u ? (n630 ? n630 : 4294967295u) : n216;
+                        }
+                        if (n91 < 3u) {
+                            n167 = 0u;
+                            return n167;
+                        }
+                    }
+                }
+            }
+        } while (0);
+        warnings_blanks_trimmed(frame + 8u, name, name_len);
+        const word p259 = load_word(frame + 8u);
+        const u64 w269 = load64(frame + 16u);
+        store64(frame + 104u, 0u);
+        store64(frame + 96u, 0u);
+        store64(frame + 88u, 0u);
+        store64(frame + 80u, 0u);
+        store64(frame + 72u, 0u);
+        store64(frame + 64u, 0u);
+        word p293 = p259;
+        u64 w14 = w269;
+        if (w269 != 0u) {
             do {
-                if (load8(no_address(p353, 1u)))
+                if (load8(p293))
                     goto L465;
-                p353 = p353 + 8u;
-                w353 = w353 - 1u;
-            } while (w353 != 0u);
+                p293 = p293 + 8u;
+                w14 = w14 - 1u;
+            } while (w14 != 0u);
         }
-        core_machine_Machine_form_named(frame + 64u, machine, no_address((word)w134, 1u), w68);
+        core_machine_Machine_form_named(frame + 64u, machine, p259, w269);
         if (load8(frame + 64u) == 1u) {
             n162 = 12u;
             store64(frame + 24u, load64(ending + 16u));
@@ -26363,7 +26925,7 @@ INTERNAL u32 warnings_performed_warn(word warnings, u64 alloc, u32 suspicion, wo
     const word p716 = warnings + 8u;
     u64 w852 = load64(p716);
     if (load64(warnings + 16u) == w852) {
-        if (std_alloc_vec_Vec_grow_amortized3(warnings) == 0u) {
+        if (std_alloc_vec_Vec_grow_amortized2(warnings) == 0u) {
             if (w828 == 0u) {
                 return n216;
             }
@@ -26410,7 +26972,7 @@ static u32 warnings_performed_warn_of(word a1, word a2, word a3) {
     const word p847 = a1 + 8u;
     u64 w39 = load64(p847);
     if (load64(a1 + 16u) == w39) {
-        if (std_alloc_vec_Vec_grow_amortized3(a1) == 0u) {
+        if (std_alloc_vec_Vec_grow_amortized2(a1) == 0u) {
             if (w52 != 0u) {
                 if (load64((word)w495 + 32u) == 1u) {
                     const word p191 = load_word((word)w495 + 24u);
@@ -26465,7 +27027,7 @@ INTERNAL void warnings_performed_characters_of(word result, u64 alloc, word cell
                 }
                 u64 w36 = load64(frame + 56u);
                 if (load64(frame + 64u) == w36) {
-                    if (std_alloc_vec_Vec_grow_amortized4(frame + 48u, 1u) == 0u) {
+                    if (std_alloc_vec_Vec_grow_amortized3(frame + 48u, 1u) == 0u) {
                         const u64 w33 = load64(frame + 64u);
                         if (w33 != 0u) {
                             const word p120 = load_word(frame + 72u);
@@ -26513,317 +27075,268 @@ static u32 warnings_printed_look_at_printed(word a1, u64 a2, word a3) {
     u64 room[22];
     const word frame = (word)room;
     u64 w68 = 0u;
-    u64 w69;
-    u64 w38;
+    u64 w69 = 0u;
+    u32 n216;
+    u64 w161;
+    u64 w266;
+    u64 w741;
     {
+        store64(frame + 144u, 0u);
+        store64(frame + 136u, 0u);
+        store64(frame + 128u, 0u);
+        store64(frame + 120u, 0u);
+        store64(frame + 80u, 0u);
+        store64(frame + 88u, 0u);
+        store64(frame + 96u, 0u);
+        store64(frame + 104u, 0u);
+        store64(frame + 112u, 0u);
+        store64(frame + 48u, 0u);
+        store64(frame + 56u, 0u);
+        store64(frame + 64u, 0u);
+        store64(frame + 72u, 0u);
+        store64(frame + 16u, 0u);
+        store64(frame + 24u, 0u);
+        store64(frame + 32u, 0u);
+        store64(frame + 40u, 0u);
+        const u64 w136 = load64(a3);
+        u64 w116;
         {
-            {
-                store64(frame + 144u, 0u);
-                store64(frame + 136u, 0u);
-                store64(frame + 128u, 0u);
-                store64(frame + 120u, 0u);
-                store64(frame + 80u, 0u);
-                store64(frame + 88u, 0u);
-                store64(frame + 96u, 0u);
-                store64(frame + 104u, 0u);
-                store64(frame + 112u, 0u);
-                store64(frame + 48u, 0u);
-                store64(frame + 56u, 0u);
-                store64(frame + 64u, 0u);
-                store64(frame + 72u, 0u);
-                store64(frame + 16u, 0u);
-                store64(frame + 24u, 0u);
-                store64(frame + 32u, 0u);
-                store64(frame + 40u, 0u);
-                const u64 w136 = load64(a3);
-                u64 w116;
-                {
-                    w116 = load64(a3 + 8u);
-                    if (w116 != 0u) {
-                        word p136 = (word)w136;
-                        while (load8(p136) != 2u) {
-                            p136 = p136 + 8u;
-                            w68 = w68 + 1u;
-                            if (w68 == w116) {
-                                w68 = w116;
-                                break;
-                            }
-                        }
+            w116 = load64(a3 + 8u);
+            if (w116 != 0u) {
+                word p136 = (word)w136;
+                while (load8(p136) != 2u) {
+                    p136 = p136 + 8u;
+                    w69 = w69 + 1u;
+                    if (w69 == w116) {
+                        w69 = w116;
+                        break;
                     }
                 }
-                const u32 n366 = w68 >= w116;
-                if (n366 == 0u) {
-                    const u64 w301 = w68 + 1u;
-                    w69 = w116 - w301;
-                    if (w69 != 0u) {
-                        const u64 w996 = w68 - w116 + 1u;
-                        u64 w70 = 0u;
-                        w38 = n366 ? TABLES + 5032u : (w301 << 3) + w136;
-                        word p353 = (word)w38;
-                        {
-                            for (;;) {
-                                if (load8(no_address(p353, 1u)) != 2u) {
-                                    p353 = p353 + 8u;
-                                    w70 = w70 - 1u;
-                                    if (w996 != w70)
-                                        continue;
-                                    break;
-                                }
-                                w69 = 0u;
-                                if (w70 == 0u) {
-                                    w38 = TABLES + 5032u;
-                                    goto L172;
-                                }
-                                w69 = 0u - w70;
-                                break;
-                            }
-                        }
-                        word p156 = (word)w69 << 3;
-                        for (;;) {
-                            if (load8(no_address((word)w38, 1u)) == 0u) {
-                                const word p567 = load8(no_address((word)w38 + 1u, 1u));
-                                if (p567 <= 32u) {
-                                    if ((((u64)1u << (p567 & 63u)) & 4294977024ull) != 0u) {
-                                        w38 = w38 + 8u;
-                                        p156 = p156 - 8u;
-                                        w69 = w69 - 1u;
-                                        if (w69 != 0u)
-                                            continue;
-                                        break;
-                                    }
-                                }
-                            }
-                            if (w69 == 0u) {
-                                w69 = 0u;
-                                goto L172;
-                            }
-                            const word p596 = p156 + (word)w38;
-                            if (load8(no_address(p596 - 8u, 1u)))
-                                goto L955;
-                            const word p297 = load8(no_address(p596 - 7u, 1u));
-                            if (p297 > 32u)
-                                goto L955;
-                            if ((((u64)1u << (p297 & 63u)) & 4294977024ull) == 0u)
-                                goto L955;
-                            goto L172;
+            }
+        }
+        const u64 w301 = w69 + 1u;
+        const u32 n366 = w69 >= w116;
+        const u64 w679 = n366 ? TABLES + 5032u : (w301 << 3) + w136;
+        {
+            if (n366 == 0u) {
+                const u64 w753 = w116 - w301;
+                if (w753 != 0u) {
+                    word p358 = (word)w679;
+                    while (load8(no_address(p358, 1u)) != 2u) {
+                        p358 = p358 + 8u;
+                        w68 = w68 + 1u;
+                        if (w68 == w753) {
+                            w68 = w753;
+                            break;
                         }
                     }
                 }
             }
-            w38 = TABLES + 5032u;
-            w69 = 0u;
         }
-    L172:;
-        warnings_blanks_before_last_blanks(frame, no_address((word)w38, 1u), w69);
-        w69 = load64(frame + 8u);
-        w38 = load64(frame);
-    }
-L955:;
-    u32 n216;
-    if (w69 == 0u) {
-        n216 = 0u;
-        return n216;
-    }
-    word p353 = (word)w38;
-    u64 w353 = w69;
-    for (;;) {
-        if (load8(no_address(p353, 1u)) == 0u) {
-            if (load8(no_address(p353 + 1u, 1u)) == 35u) {
-                warnings_performed_characters_of(frame + 80u, a2, no_address((word)w38, 1u), w69);
-                n216 = 1u;
-                if (load8(frame + 80u)) {
-                    return n216;
-                }
-                const u64 w161 = load64(frame + 112u);
-                const u64 w266 = load64(frame + 104u);
-                const u64 w741 = load64(frame + 88u);
-                {
+        warnings_blanks_trimmed(frame, w679, w68);
+        const u64 w664 = load64(frame + 8u);
+        if (w664 == 0u) {
+            n216 = 0u;
+            return n216;
+        }
+        const word p38 = load_word(frame);
+        word p36 = p38;
+        u64 w293 = w664;
+        for (;;) {
+            if (load8(p36) == 0u) {
+                if (load8(p36 + 1u) == 35u) {
+                    warnings_performed_characters_of(frame + 80u, a2, p38, w664);
+                    n216 = 1u;
+                    if (load8(frame + 80u)) {
+                        return n216;
+                    }
+                    w161 = load64(frame + 112u);
+                    w266 = load64(frame + 104u);
+                    w741 = load64(frame + 88u);
                     const u64 w952 = load64(frame + 96u);
-                    if (w952 != 0u) {
-                        const u64 w418 = w952 - 2u;
-                        u64 w70 = 0u;
-                        const u64 w287 = w952 - 1u;
-                        u64 w288 = w287;
-                        do {
-                            const u64 w354 = w70;
-                            w70 = w354 + 1u;
-                            {
-                                const u64 w322 = w741 + w354;
-                                if (load8((word)w322) == 35u) {
-                                    if (w354 != w287) {
-                                        u64 w340 = w288;
-                                        u64 w468 = w322 + 1u;
-                                        u32 n357 = load8((word)w468);
-                                        if (n357 == 35u) {
-                                            if (w418 == w354)
+                    if (w952 == 0u)
+                        break;
+                    const u64 w418 = w952 - 2u;
+                    u64 w70 = 0u;
+                    const u64 w287 = w952 - 1u;
+                    u64 w288 = w287;
+                    do {
+                        const u64 w353 = w70;
+                        w70 = w353 + 1u;
+                        {
+                            const u64 w322 = w741 + w353;
+                            if (load8((word)w322) == 35u) {
+                                if (w353 != w287) {
+                                    u64 w340 = w288;
+                                    u64 w468 = w322 + 1u;
+                                    u32 n357 = load8((word)w468);
+                                    if (n357 == 35u) {
+                                        if (w418 == w353)
+                                            goto L122;
+                                        w468 = w741 + w70 + 1u;
+                                        n357 = load8((word)w322 + 2u);
+                                        w340 = w952 - w70 - 1u;
+                                    }
+                                    if ((n357 & 255u) == 40u) {
+                                        store32(frame + 160u, 0u);
+                                        store64(frame + 152u, 0u);
+                                        if (w340 >= 4u) {
+                                            switch (load8((word)w468 + 3u) - 41u) {
+                                            case 0:
+                                            case 3:
+                                                break;
+                                            default:
                                                 goto L122;
-                                            w468 = w741 + w70 + 1u;
-                                            n357 = load8((word)w322 + 2u);
-                                            w340 = w952 - w70 - 1u;
-                                        }
-                                        if ((n357 & 255u) == 40u) {
-                                            store32(frame + 160u, 0u);
-                                            store64(frame + 152u, 0u);
-                                            if (w340 >= 4u) {
-                                                switch (load8((word)w468 + 3u) - 41u) {
-                                                case 0:
-                                                case 3:
-                                                    break;
-                                                default:
-                                                    goto L122;
-                                                }
-                                                store32(frame + 164u, 0u);
-                                                store8(frame + 161u, load8((word)w468 + 2u));
-                                                u64 w77 = 1u;
-                                                word p301 = (word)w468 + 1u;
-                                                store8(frame + 153u, load8(p301));
-                                                store8(frame + 174u, 0u);
-                                                store16(frame + 172u, 0u);
-                                                functions_function_function_of(frame + 172u, frame + 152u, frame +
-                                                    160u);
-                                                if (load8(frame + 172u) == 1u) {
-                                                    const u64 w301 = w468 + 1u;
-                                                    u64 w641 = w340 - 1u;
-                                                    for (;;) {
-                                                        switch (load8(p301) - 40u) {
-                                                        case 0:
-                                                        {
-                                                            const u64 w302 = w77 + 1u;
-                                                            w77 = w302 == 0u ? 18446744073709551615ull : w302;
-                                                            break;
-                                                        }
-                                                        case 1:
-                                                        {
-                                                            if (w77 == 1u)
-                                                                goto L41;
-                                                            w77 = w77 - (u32)(w77 != 0u);
-                                                            break;
-                                                        }
-                                                        }
-                                                        p301 = p301 + 1u;
-                                                        w641 = w641 - 1u;
-                                                        if (w641 == 0u)
-                                                            goto L344;
-                                                    }
-                                                L41:;
-                                                    if (w641 != 1u)
+                                            }
+                                            store32(frame + 164u, 0u);
+                                            store8(frame + 161u, load8((word)w468 + 2u));
+                                            u64 w77 = 1u;
+                                            word p301 = (word)w468 + 1u;
+                                            store8(frame + 153u, load8(p301));
+                                            store8(frame + 174u, 0u);
+                                            store16(frame + 172u, 0u);
+                                            functions_function_function_of(frame + 172u, frame + 152u, frame + 160u);
+                                            if (load8(frame + 172u) == 1u) {
+                                                const u64 w302 = w468 + 1u;
+                                                u64 w641 = w340 - 1u;
+                                                for (;;) {
+                                                    switch (load8(p301) - 40u) {
+                                                    case 0:
+                                                    {
+                                                        const u64 w303 = w77 + 1u;
+                                                        w77 = w303 == 0u ? 18446744073709551615ull : w303;
                                                         break;
-                                                    store64(frame + 128u, 0u);
-                                                    store64(frame + 136u, 0u);
-                                                    store64(frame + 144u, a2);
-                                                    store64(frame + 120u, frame + 175u);
-                                                    const u32 n958 = std_alloc_vec_Vec_grow_amortized4(frame + 120u,
-                                                        2u);
-                                                    const u64 w847 = load64(frame + 120u);
-                                                    const u64 w289 = load64(frame + 136u);
-                                                    if (n958) {
-                                                        const u64 w112 = load64(frame + 128u);
-                                                        const u64 w310 = w112 + 2u;
-                                                        const u64 w528 = w112 + w847;
-                                                        if (w528 - w301 <= 1u) {
-                                                            store8((word)w528, load8((word)w468 + 1u));
-                                                            store8((word)w528 + 1u, load8((word)w468 + 2u));
-                                                        } else {
-                                                            store16((word)w528, load16((word)w301));
-                                                        }
-                                                        store64(frame + 136u, w289);
-                                                        store64(frame + 128u, w310);
-                                                        store64(frame + 48u, load64(a3 + 16u));
-                                                        store64(frame + 56u, load8(a3 + 24u));
-                                                        store64(frame + 64u, load64(a3 + 32u));
-                                                        store64(frame + 72u, load64(a3 + 40u));
-                                                        const u32 n376 = warnings_performed_warn_of(a1, frame + 48u,
-                                                            frame + 120u);
-                                                        store64(frame + 40u, w161);
-                                                        store64(frame + 32u, w266);
-                                                        store64(frame + 24u, w952);
-                                                        store64(frame + 16u, w741);
-                                                        n216 = n376 & 255u;
-                                                        const u64 w589 = load64(frame + 32u);
-                                                        if (w589 != 0u) {
-                                                            const word p76 = load_word(frame + 40u);
-                                                            if (load64(p76 + 32u) == 1u) {
-                                                                const word p173 = load_word(p76 + 24u);
-                                                                const u64 w508 = load64(p173 + 32u);
-                                                                if (load64(p173) + w508 == load64(frame + 16u)) {
+                                                    }
+                                                    case 1:
+                                                    {
+                                                        if (w77 == 1u)
+                                                            goto L41;
+                                                        w77 = w77 - (u32)(w77 != 0u);
+                                                        break;
+                                                    }
+                                                    }
+                                                    p301 = p301 + 1u;
+                                                    w641 = w641 - 1u;
+                                                    if (w641 == 0u)
+                                                        goto L344;
+                                                }
+                                            L41:;
+                                                if (w641 != 1u)
+                                                    break;
+                                                store64(frame + 128u, 0u);
+                                                store64(frame + 136u, 0u);
+                                                store64(frame + 144u, a2);
+                                                store64(frame + 120u, frame + 175u);
+                                                const u32 n958 = std_alloc_vec_Vec_grow_amortized3(frame + 120u, 2u);
+                                                const u64 w847 = load64(frame + 120u);
+                                                const u64 w289 = load64(frame + 136u);
+                                                if (n958) {
+                                                    const u64 w112 = load64(frame + 128u);
+                                                    const u64 w310 = w112 + 2u;
+                                                    const u64 w528 = w112 + w847;
+                                                    if (w528 - w302 <= 1u) {
+                                                        store8((word)w528, load8((word)w468 + 1u));
+                                                        store8((word)w528 + 1u, load8((word)w468 + 2u));
+                                                    } else {
+                                                        store16((word)w528, load16((word)w302));
+                                                    }
+                                                    store64(frame + 136u, w289);
+                                                    store64(frame + 128u, w310);
+                                                    store64(frame + 48u, load64(a3 + 16u));
+                                                    store64(frame + 56u, load8(a3 + 24u));
+                                                    store64(frame + 64u, load64(a3 + 32u));
+                                                    store64(frame + 72u, load64(a3 + 40u));
+                                                    const u32 n376 = warnings_performed_warn_of(a1, frame + 48u,
+                                                        frame + 120u);
+                                                    store64(frame + 40u, w161);
+                                                    store64(frame + 32u, w266);
+                                                    store64(frame + 24u, w952);
+                                                    store64(frame + 16u, w741);
+                                                    n216 = n376 & 255u;
+                                                    const u64 w589 = load64(frame + 32u);
+                                                    if (w589 != 0u) {
+                                                        const word p76 = load_word(frame + 40u);
+                                                        if (load64(p76 + 32u) == 1u) {
+                                                            const word p173 = load_word(p76 + 24u);
+                                                            const u64 w508 = load64(p173 + 32u);
+                                                            if (load64(p173) + w508 == load64(frame + 16u)) {
                                                                 store64(p173 + 32u, w589 + w508);
-                                                                }
-                                                            }
-                                                            const word p452 = p76 + 40u;
-                                                            store64(p452, load64(p452) - 1u);
-                                                        }
-                                                        return n216;
-                                                    }
-                                                    if (w289 != 0u) {
-                                                        const word p487 = load_word(frame + 144u);
-                                                        if (load64(p487 + 32u) == 1u) {
-                                                            const word p885 = load_word(p487 + 24u);
-                                                            const u64 w832 = load64(p885 + 32u);
-                                                            if (load64(p885) + w832 == w847) {
-                                                                store64(p885 + 32u, w832 + w289);
                                                             }
                                                         }
-                                                        const word p461 = p487 + 40u;
-                                                        store64(p461, load64(p461) - 1u);
+                                                        const word p452 = p76 + 40u;
+                                                        store64(p452, load64(p452) - 1u);
                                                     }
-                                                    n216 = 1u;
-                                                    if (w266 == 0u) {
-                                                        return n216;
+                                                    return n216;
+                                                }
+                                                if (w289 != 0u) {
+                                                    const word p487 = load_word(frame + 144u);
+                                                    if (load64(p487 + 32u) == 1u) {
+                                                        const word p885 = load_word(p487 + 24u);
+                                                        const u64 w832 = load64(p885 + 32u);
+                                                        if (load64(p885) + w832 == w847) {
+                                                            store64(p885 + 32u, w832 + w289);
+                                                        }
                                                     }
-                                                    word p359;
-                                                    if (load64((word)w161 + 32u) != 1u) {
-                                                        p359 = (word)w161 + 40u;
-                                                        store64(p359, load64(p359) - 1u);
-                                                        return n216;
-                                                    }
-                                                    const word p192 = load_word((word)w161 + 24u);
-                                                    const u64 w984 = load64(p192 + 32u);
-                                                    if (load64(p192) + w984 != w741) {
-                                                        p359 = (word)w161 + 40u;
-                                                        store64(p359, load64(p359) - 1u);
-                                                        return n216;
-                                                    }
-                                                    store64(p192 + 32u, w984 + w266);
+                                                    const word p461 = p487 + 40u;
+                                                    store64(p461, load64(p461) - 1u);
+                                                }
+                                                n216 = 1u;
+                                                if (w266 == 0u) {
+                                                    return n216;
+                                                }
+                                                word p359;
+                                                if (load64((word)w161 + 32u) != 1u) {
                                                     p359 = (word)w161 + 40u;
                                                     store64(p359, load64(p359) - 1u);
                                                     return n216;
                                                 }
+                                                const word p192 = load_word((word)w161 + 24u);
+                                                const u64 w984 = load64(p192 + 32u);
+                                                if (load64(p192) + w984 != w741) {
+                                                    p359 = (word)w161 + 40u;
+                                                    store64(p359, load64(p359) - 1u);
+                                                    return n216;
+                                                }
+                                                store64(p192 + 32u, w984 + w266);
+                                                p359 = (word)w161 + 40u;
+                                                store64(p359, load64(p359) - 1u);
+                                                return n216;
                                             }
                                         }
                                     }
                                 }
                             }
-                        L122:;
-                            w288 = w288 - 1u;
-                        } while (w70 != w952);
-                    }
+                        }
+                    L122:;
+                        w288 = w288 - 1u;
+                    } while (w70 != w952);
+                    break;
                 }
-            L344:;
-                if (w266 == 0u) {
-                    n216 = 0u;
-                    return n216;
-                }
-                if (load64((word)w161 + 32u) == 1u) {
-                    const word p192 = load_word((word)w161 + 24u);
-                    const u64 w984 = load64(p192 + 32u);
-                    if (load64(p192) + w984 == w741) {
-                        store64(p192 + 32u, w984 + w266);
-                    }
-                }
-                const word p359 = (word)w161 + 40u;
-                store64(p359, load64(p359) - 1u);
+            }
+            p36 = p36 + 8u;
+            w293 = w293 - 1u;
+            if (w293 == 0u) {
                 n216 = 0u;
                 return n216;
             }
         }
-        p353 = p353 + 8u;
-        w353 = w353 - 1u;
-        if (w353 == 0u) {
-            n216 = 0u;
-            return n216;
+    }
+L344:;
+    if (w266 == 0u) {
+        n216 = 0u;
+        return n216;
+    }
+    if (load64((word)w161 + 32u) == 1u) {
+        const word p192 = load_word((word)w161 + 24u);
+        const u64 w984 = load64(p192 + 32u);
+        if (load64(p192) + w984 == w741) {
+            store64(p192 + 32u, w984 + w266);
         }
     }
-    return 0;
+    const word p359 = (word)w161 + 40u;
+    store64(p359, load64(p359) - 1u);
+    n216 = 0u;
+    return n216;
 }
 
 /* trac_warnings::printed::look_at_new_meta::<#f933f01a1e4bfb09>. */
@@ -27677,7 +28190,7 @@ INTERNAL u32 warnings_watch_Watch_warn_of_rule(word self, word before, word orig
         const word p430 = self + 120u;
         u64 w820 = load64(p430);
         if (load64(self + 128u) == w820) {
-            if (std_alloc_vec_Vec_grow_amortized2(self + 112u) == 0u) {
+            if (std_alloc_vec_Vec_grow_amortized4(self + 112u) == 0u) {
                 n103 = 1u;
                 return n103;
             }
@@ -27721,7 +28234,7 @@ INTERNAL u32 warnings_watch_Watch_warn_of_rule(word self, word before, word orig
         const word p776 = self + 152u;
         u64 w171 = load64(p776);
         if (load64(self + 160u) == w171) {
-            if (std_alloc_vec_Vec_grow_amortized2(self + 144u) == 0u) {
+            if (std_alloc_vec_Vec_grow_amortized4(self + 144u) == 0u) {
                 n103 = 1u;
                 return n103;
             }
@@ -28069,7 +28582,7 @@ static u32 warnings_watch_Watch_warn_of_protection(word self, word before, word 
     const word p784 = self + 16u;
     u64 w706 = load64(p784);
     if (load64(self + 24u) == w706) {
-        const u32 n108 = std_alloc_vec_Vec_grow_amortized3(self + 8u);
+        const u32 n108 = std_alloc_vec_Vec_grow_amortized2(self + 8u);
         n216 = 1u;
         if (n108 == 0u) {
             return n216;
@@ -28097,348 +28610,343 @@ static u32 warnings_watch_Watch_warn_of_protection(word self, word before, word 
 
 /* trac_warnings::watch::Watch::warn_of_call::<#f933f01a1e4bfb09>. */
 static u32 warnings_watch_Watch_warn_of_call(word self, word before, u64 active, u64 neutral) {
-    u64 room[14];
+    u64 room[2];
     const word frame = (word)room;
+    u32 n103 = 0u;
     u32 n216 = 0u;
-    u32 n112 = 0u;
     const word p211 = load_word(self + 240u);
     const u64 w904 = load64(self + 248u);
-    store8(frame + 74u, 0u);
-    store16(frame + 72u, 0u);
+    store8(frame + 14u, 0u);
+    store16(frame + 12u, 0u);
+    u32 n217;
     do {
-        do {
-            if (w904 >= 2u) {
-                if (w904 == 2u)
-                    break;
-                if (load8(p211 + 16u) == 2u)
+        if (w904 < 2u) {
+            n217 = 0u;
+        } else {
+            if (w904 != 2u) {
+                n217 = 0u;
+                if (load8(p211 + 16u) != 2u)
                     break;
             }
-            goto L223;
-        } while (0);
-        functions_function_function_of(frame + 72u, p211, p211 + 8u);
-        n112 = load8(frame + 73u);
-        const u32 n595 = load8(frame + 72u);
-        store64(frame + 96u, 0u);
-        store64(frame + 88u, 0u);
-        store64(frame + 80u, 0u);
-        store64(frame + 72u, 0u);
-        n216 = n595 == 1u;
-        if (n595 == 1u) {
-            if (n112 == 19u) {
-                n216 = 1u;
-                do {
-                    {
-                        if (load64(before + 24u) > active) {
-                            const u64 w847 = load64(self + 312u);
-                            const u64 w619 = w847 - w904;
-                            const u64 w979 = w847 < w619 ? 0u : w619;
-                            if (w979 - (u32)(w979 != 0u) >= neutral) {
-                                u64 w68 = 0u;
-                                word p212 = p211;
-                                {
-                                    while (load8(p212) != 2u) {
-                                        p212 = p212 + 8u;
-                                        w68 = w68 + 1u;
-                                        if (w68 == w904) {
-                                            w68 = w904;
-                                            break;
-                                        }
-                                    }
-                                }
-                                const u64 w301 = w68 + 1u;
-                                const u32 n781 = w68 < w904;
-                                const word p443 = n781 ? ((word)w301 << 3) + p211 : TABLES + 5032u;
-                                u64 w69 = 0u;
-                                u64 w70 = 0u;
-                                u64 w66;
-                                {
-                                    const u64 w793 = w904 - w301;
-                                    w66 = n781 ? w793 : 0u;
-                                    if (w66 != 0u) {
-                                        word p564 = p443;
-                                        while (load8(no_address(p564, 1u)) != 2u) {
-                                            p564 = p564 + 8u;
-                                            w70 = w70 + 1u;
-                                            if (w70 == w66) {
-                                                w70 = w793;
-                                                break;
-                                            }
-                                        }
-                                    }
-                                }
-                                const u64 w302 = w70 + 1u;
-                                const u32 n814 = w70 < w66;
-                                const word p757 = n814 ? ((word)w302 << 3) + p443 : TABLES + 5032u;
-                                u64 w74;
-                                {
-                                    const u64 w966 = w66 - w302;
-                                    w74 = n814 ? w966 : 0u;
-                                    if (w74 != 0u) {
-                                        word p679 = p757;
-                                        while (load8(no_address(p679, 1u)) != 2u) {
-                                            p679 = p679 + 8u;
-                                            w69 = w69 + 1u;
-                                            if (w69 == w74) {
-                                                w69 = w966;
-                                                break;
-                                            }
-                                        }
-                                    }
-                                }
-                                const u32 n308 = w69 >= w74;
-                                if (n308 == 0u) {
-                                    const u64 w303 = w69 + 1u;
-                                    if (w303 != w74) {
-                                        word p759 = n308 ? TABLES + 5032u : ((word)w303 << 3) + p757;
-                                        const u64 w549 = w69 - w74 + 1u;
-                                        u64 w71 = 0u;
-                                        for (;;) {
-                                            if (load8(no_address(p759, 1u)) != 2u) {
-                                                p759 = p759 + 8u;
-                                                w71 = w71 - 1u;
-                                                if (w549 != w71)
-                                                    continue;
-                                                goto L315;
-                                            }
-                                            break;
-                                        }
-                                        if (w71 != 0u)
-                                            goto L315;
-                                    }
-                                }
-                                u64 w71 = 0u;
-                                word p213 = p211;
-                                {
-                                    while (load8(p213) != 2u) {
-                                        p213 = p213 + 8u;
-                                        w71 = w71 + 1u;
-                                        if (w71 == w904) {
-                                            w71 = w904;
-                                            break;
-                                        }
-                                    }
-                                }
-                                do {
-                                    const u32 n426 = w71 >= w904;
-                                    if (n426 == 0u) {
-                                        const u64 w303 = w71 + 1u;
-                                        const u64 w793 = w904 - w303;
-                                        if (w793 != 0u) {
-                                            u64 w72 = 0u;
-                                            word p342 = n426 ? TABLES + 5032u : ((word)w303 << 3) + p211;
-                                            word p353 = p342;
-                                            {
-                                                {
-                                                    while (load8(no_address(p353, 1u)) != 2u) {
-                                                        p353 = p353 + 8u;
-                                                        w72 = w72 + 1u;
-                                                        if (w72 == w793) {
-                                                            w72 = w793;
-                                                            goto L727;
-                                                        }
-                                                    }
-                                                }
-                                                if (w72 == 0u)
-                                                    break;
-                                            }
-                                        L727:;
-                                            u64 w304 = 1u - w72;
-                                            do {
-                                                if (load8(no_address(p342, 1u)) == 0u) {
-                                                    if (((load8(no_address(p342 + 1u, 1u)) - 48u) & 255u) <= 9u) {
-                                                        if (w304 == 0u)
-                                                            goto L131;
-                                                        u64 w548 = 0u - w304;
-                                                        word p72 = p342 + 9u;
-                                                        do {
-                                                            if (load8(no_address(p72 - 1u, 1u)))
-                                                                goto L315;
-                                                            if (((load8(no_address(p72, 1u)) - 48u) & 255u) >= 10u)
-                                                                goto L315;
-                                                            p72 = p72 + 8u;
-                                                            w548 = w548 - 1u;
-                                                        } while (w548 != 0u);
-                                                        goto L131;
-                                                    }
-                                                }
-                                                p342 = p342 + 8u;
-                                                w304 = w304 + 1u;
-                                            } while (w304 != 1u);
-                                            goto L315;
-                                        }
-                                    }
-                                } while (0);
-                            L131:;
-                                u64 w72 = 0u;
-                                word p214 = p211;
-                                {
-                                    while (load8(p214) != 2u) {
-                                        p214 = p214 + 8u;
-                                        w72 = w72 + 1u;
-                                        if (w72 == w904) {
-                                            w72 = w904;
-                                            break;
-                                        }
-                                    }
-                                }
-                                const u64 w303 = w72 + 1u;
-                                const u32 n782 = w72 < w904;
-                                const word p444 = n782 ? ((word)w303 << 3) + p211 : TABLES + 5032u;
-                                u64 w73 = 0u;
-                                u64 w67;
-                                {
-                                    const u64 w793 = w904 - w303;
-                                    w67 = n782 ? w793 : 0u;
-                                    if (w67 != 0u) {
-                                        word p564 = p444;
-                                        while (load8(no_address(p564, 1u)) != 2u) {
-                                            p564 = p564 + 8u;
-                                            w73 = w73 + 1u;
-                                            if (w73 == w67) {
-                                                w73 = w793;
-                                                break;
-                                            }
-                                        }
-                                    }
-                                }
-                                const u32 n309 = w73 >= w67;
-                                if (n309)
-                                    break;
-                                const u64 w304 = w73 + 1u;
-                                const u64 w966 = w67 - w304;
-                                if (w966 == 0u)
-                                    break;
-                                u64 w75 = 0u;
-                                word p295 = n309 ? TABLES + 5032u : ((word)w304 << 3) + p444;
-                                word p353 = p295;
-                                {
-                                    {
-                                        while (load8(no_address(p353, 1u)) != 2u) {
-                                            p353 = p353 + 8u;
-                                            w75 = w75 + 1u;
-                                            if (w75 == w966) {
-                                                w75 = w966;
-                                                goto L728;
-                                            }
-                                        }
-                                    }
-                                    if (w75 == 0u)
-                                        break;
-                                }
-                            L728:;
-                                u64 w305 = 1u - w75;
-                                do {
-                                    if (load8(no_address(p295, 1u)) == 0u) {
-                                        if (((load8(no_address(p295 + 1u, 1u)) - 48u) & 255u) <= 9u) {
-                                            if (w305 == 0u)
-                                                goto L464;
-                                            u64 w548 = 0u - w305;
-                                            word p72 = p295 + 9u;
-                                            do {
-                                                if (load8(no_address(p72 - 1u, 1u)))
-                                                    goto L315;
-                                                if (((load8(no_address(p72, 1u)) - 48u) & 255u) >= 10u)
-                                                    goto L315;
-                                                p72 = p72 + 8u;
-                                                w548 = w548 - 1u;
-                                            } while (w548 != 0u);
-                                            goto L464;
-                                        }
-                                    }
-                                    p295 = p295 + 8u;
-                                    w305 = w305 + 1u;
-                                } while (w305 != 1u);
-                            }
-                        }
-                    }
-                L315:;
-                    n112 = 19u;
-                    goto L223;
-                } while (0);
-            L464:;
-                const u64 w820 = load64(self + 120u);
-                word p150;
-                word p422;
-                word p395;
-                word p435;
-                if (w820 == 0u) {
-                    p150 = self + 304u;
-                    p422 = self + 296u;
-                    p395 = self + 288u;
-                    p435 = self + 280u;
-                } else {
-                    const word p634 = load_word(self + 112u) + ((word)w820 << 5);
-                    p150 = p634 - 8u;
-                    p422 = p634 - 16u;
-                    p395 = p634 - 24u;
-                    p435 = p634 - 32u;
-                }
-                store64(frame + 96u, load64(p150));
-                store64(frame + 88u, load64(p422));
-                store64(frame + 80u, load8(p395));
-                store64(frame + 72u, load64(p435));
-                u64 w68 = 0u;
-                word p212 = p211;
-                {
-                    while (load8(p212) != 2u) {
-                        p212 = p212 + 8u;
-                        w68 = w68 + 1u;
-                        if (w68 == w904) {
-                            w68 = w904;
-                            break;
-                        }
-                    }
-                }
-                n112 = 19u;
-                const u64 w243 = load64(self);
-                if (warnings_performed_warn(self + 8u, w243, 14u, frame + 72u, p211, w68) & 255u) {
-                    return n216;
+            functions_function_function_of(frame + 12u, p211, p211 + 8u);
+            n216 = load8(frame + 13u);
+            n103 = load8(frame + 12u);
+            n217 = load8(frame + 14u);
+        }
+    } while (0);
+    store8(frame + 11u, n217);
+    store8(frame + 10u, n216);
+    store8(frame + 9u, n103);
+    u32 n375 = 1u;
+    if (warnings_watch_Watch_warn_of_result(self, frame + 9u, before, active, neutral) & 255u) {
+        return n375;
+    }
+    if (warnings_watch_Watch_keep_form(self, n103, n216) & 255u) {
+        return n375;
+    }
+    n375 = warnings_watch_Watch_close_call(self) & 255u;
+    return n375;
+}
+
+/* trac_warnings::watch::Watch::warn_of_result::<#f933f01a1e4bfb09>. */
+static u32 warnings_watch_Watch_warn_of_result(word self, word function, word before, u64 active, u64 neutral) {
+    u64 room[4];
+    const word frame = (word)room;
+    u32 n216 = 0u;
+    store64(frame, 0u);
+    store64(frame + 8u, 0u);
+    store64(frame + 16u, 0u);
+    store64(frame + 24u, 0u);
+    if (load8(function) != 1u) {
+        return n216;
+    }
+    if (load8(function + 1u) != 19u) {
+        return n216;
+    }
+    if (load64(before + 24u) <= active) {
+        return n216;
+    }
+    const u64 w847 = load64(self + 312u);
+    const u64 w904 = load64(self + 248u);
+    const u64 w619 = w847 - w904;
+    const u64 w979 = w847 < w619 ? 0u : w619;
+    if (w979 - (u32)(w979 != 0u) < neutral) {
+        return n216;
+    }
+    const word p211 = load_word(self + 240u);
+    u64 w68 = 0u;
+    u64 w69 = 0u;
+    u32 n360;
+    {
+        n360 = w904 == 0u;
+        if (n360 == 0u) {
+            word p212 = p211;
+            while (load8(p212) != 2u) {
+                p212 = p212 + 8u;
+                w69 = w69 + 1u;
+                if (w69 == w904) {
+                    w69 = w904;
+                    break;
                 }
             }
         }
-    } while (0);
-L223:;
-    store64(frame + 72u, 0u);
-    store64(frame + 80u, 0u);
-    store64(frame + 88u, 0u);
-    store64(frame + 96u, 0u);
-    store64(frame + 104u, 0u);
-    store64(frame + 32u, 0u);
-    store64(frame + 40u, 0u);
-    store64(frame + 48u, 0u);
-    store64(frame + 56u, 0u);
-    store64(frame + 64u, 0u);
-    if (n216 != 0u) {
-        const u32 n91 = n112;
-        if (((1u << (n91 & 31u)) & 33552351u) == 0u) {
-            if (n91 == 5u) {
-                const u64 w243 = load64(self);
-                n216 = 1u;
-                events_call_argument(frame, load64(self + 240u), load64(self + 248u));
-                warnings_performed_characters_of(frame + 72u, w243, load_word(frame), load64(frame + 8u));
-                if (load8(frame + 72u)) {
-                    return n216;
+    }
+    const u64 w301 = w69 + 1u;
+    const u32 n781 = w69 < w904;
+    const word p443 = n781 ? ((word)w301 << 3) + p211 : TABLES + 5032u;
+    u64 w66;
+    {
+        const u64 w793 = w904 - w301;
+        w66 = n781 ? w793 : 0u;
+        if (w66 != 0u) {
+            word p564 = p443;
+            while (load8(no_address(p564, 1u)) != 2u) {
+                p564 = p564 + 8u;
+                w68 = w68 + 1u;
+                if (w68 == w66) {
+                    w68 = w793;
+                    break;
                 }
-                if ((warnings_watch_Watch_define(self, frame + 80u) & 255u) == 0u) {
-                    n216 = warnings_watch_Watch_close_call(self) & 255u;
-                    return n216;
-                }
-                return n216;
             }
-            const u64 w243 = load64(self);
-            n216 = 1u;
-            events_call_argument(frame + 16u, load64(self + 240u), load64(self + 248u));
-            warnings_performed_characters_of(frame + 32u, w243, load_word(frame + 16u), load64(frame + 24u));
-            if (load8(frame + 32u) == 0u) {
-                if (warnings_watch_Watch_count_call(self, frame + 40u) & 255u) {
+        }
+    }
+    const u64 w302 = w68 + 1u;
+    const u32 n814 = w68 < w66;
+    const word p757 = n814 ? ((word)w302 << 3) + p443 : TABLES + 5032u;
+    u64 w70 = 0u;
+    u64 w74;
+    {
+        const u64 w966 = w66 - w302;
+        w74 = n814 ? w966 : 0u;
+        if (w74 != 0u) {
+            word p679 = p757;
+            while (load8(no_address(p679, 1u)) != 2u) {
+                p679 = p679 + 8u;
+                w70 = w70 + 1u;
+                if (w70 == w74) {
+                    w70 = w966;
+                    break;
+                }
+            }
+        }
+    }
+    const u32 n308 = w70 >= w74;
+    if (n308 == 0u) {
+        const u64 w303 = w70 + 1u;
+        if (w303 != w74) {
+            word p759 = n308 ? TABLES + 5032u : ((word)w303 << 3) + p757;
+            const u64 w549 = w70 - w74 + 1u;
+            u64 w71 = 0u;
+            for (;;) {
+                if (load8(no_address(p759, 1u)) != 2u) {
+                    p759 = p759 + 8u;
+                    w71 = w71 - 1u;
+                    if (w549 != w71)
+                        continue;
                     return n216;
                 }
-            } else {
+                break;
+            }
+            if (w71 != 0u) {
                 return n216;
             }
         }
     }
-    n216 = warnings_watch_Watch_close_call(self) & 255u;
+    u64 w71 = 0u;
+    {
+        if (n360 == 0u) {
+            word p212 = p211;
+            while (load8(p212) != 2u) {
+                p212 = p212 + 8u;
+                w71 = w71 + 1u;
+                if (w71 == w904) {
+                    w71 = w904;
+                    break;
+                }
+            }
+        }
+    }
+    do {
+        const u32 n426 = w71 >= w904;
+        if (n426 == 0u) {
+            const u64 w303 = w71 + 1u;
+            const u64 w793 = w904 - w303;
+            if (w793 != 0u) {
+                u64 w72 = 0u;
+                word p342 = n426 ? TABLES + 5032u : ((word)w303 << 3) + p211;
+                word p353 = p342;
+                {
+                    {
+                        while (load8(no_address(p353, 1u)) != 2u) {
+                            p353 = p353 + 8u;
+                            w72 = w72 + 1u;
+                            if (w72 == w793) {
+                                w72 = w793;
+                                goto L727;
+                            }
+                        }
+                    }
+                    if (w72 == 0u)
+                        break;
+                }
+            L727:;
+                u64 w304 = 1u - w72;
+                for (;;) {
+                    if (load8(no_address(p342, 1u)) == 0u) {
+                        if (((load8(no_address(p342 + 1u, 1u)) - 48u) & 255u) <= 9u) {
+                            if (w304 == 0u)
+                                break;
+                            u64 w548 = 0u - w304;
+                            word p72 = p342 + 9u;
+                            do {
+                                if (load8(no_address(p72 - 1u, 1u))) {
+                                    return n216;
+                                }
+                                if (((load8(no_address(p72, 1u)) - 48u) & 255u) >= 10u) {
+                                    return n216;
+                                }
+                                p72 = p72 + 8u;
+                                w548 = w548 - 1u;
+                            } while (w548 != 0u);
+                            break;
+                        }
+                    }
+                    p342 = p342 + 8u;
+                    w304 = w304 + 1u;
+                    if (w304 == 1u) {
+                        return n216;
+                    }
+                }
+            }
+        }
+    } while (0);
+    u64 w72 = 0u;
+    u64 w73 = 0u;
+    {
+        if (n360 == 0u) {
+            word p212 = p211;
+            while (load8(p212) != 2u) {
+                p212 = p212 + 8u;
+                w73 = w73 + 1u;
+                if (w73 == w904) {
+                    w73 = w904;
+                    break;
+                }
+            }
+        }
+    }
+    const u64 w303 = w73 + 1u;
+    const u32 n782 = w73 < w904;
+    const word p444 = n782 ? ((word)w303 << 3) + p211 : TABLES + 5032u;
+    u64 w67;
+    {
+        const u64 w793 = w904 - w303;
+        w67 = n782 ? w793 : 0u;
+        if (w67 != 0u) {
+            word p564 = p444;
+            while (load8(no_address(p564, 1u)) != 2u) {
+                p564 = p564 + 8u;
+                w72 = w72 + 1u;
+                if (w72 == w67) {
+                    w72 = w793;
+                    break;
+                }
+            }
+        }
+    }
+    do {
+        const u32 n309 = w72 >= w67;
+        if (n309 == 0u) {
+            const u64 w304 = w72 + 1u;
+            const u64 w966 = w67 - w304;
+            if (w966 != 0u) {
+                u64 w75 = 0u;
+                word p295 = n309 ? TABLES + 5032u : ((word)w304 << 3) + p444;
+                word p353 = p295;
+                {
+                    {
+                        while (load8(no_address(p353, 1u)) != 2u) {
+                            p353 = p353 + 8u;
+                            w75 = w75 + 1u;
+                            if (w75 == w966) {
+                                w75 = w966;
+                                goto L728;
+                            }
+                        }
+                    }
+                    if (w75 == 0u)
+                        break;
+                }
+            L728:;
+                u64 w305 = 1u - w75;
+                for (;;) {
+                    if (load8(no_address(p295, 1u)) == 0u) {
+                        if (((load8(no_address(p295 + 1u, 1u)) - 48u) & 255u) <= 9u) {
+                            if (w305 == 0u)
+                                break;
+                            u64 w548 = 0u - w305;
+                            word p72 = p295 + 9u;
+                            do {
+                                if (load8(no_address(p72 - 1u, 1u))) {
+                                    return n216;
+                                }
+                                if (((load8(no_address(p72, 1u)) - 48u) & 255u) >= 10u) {
+                                    return n216;
+                                }
+                                p72 = p72 + 8u;
+                                w548 = w548 - 1u;
+                            } while (w548 != 0u);
+                            break;
+                        }
+                    }
+                    p295 = p295 + 8u;
+                    w305 = w305 + 1u;
+                    if (w305 == 1u) {
+                        return n216;
+                    }
+                }
+            }
+        }
+    } while (0);
+    const u64 w820 = load64(self + 120u);
+    word p150;
+    word p422;
+    word p395;
+    word p435;
+    if (w820 == 0u) {
+        p150 = self + 304u;
+        p422 = self + 296u;
+        p395 = self + 288u;
+        p435 = self + 280u;
+    } else {
+        const word p634 = load_word(self + 112u) + ((word)w820 << 5);
+        p150 = p634 - 8u;
+        p422 = p634 - 16u;
+        p395 = p634 - 24u;
+        p435 = p634 - 32u;
+    }
+    store64(frame + 24u, load64(p150));
+    store64(frame + 16u, load64(p422));
+    store64(frame + 8u, load8(p395));
+    store64(frame, load64(p435));
+    u64 w75 = 0u;
+    if (n360 == 0u) {
+        word p212 = p211;
+        for (;;) {
+            if (load8(p212) == 2u) {
+                n216 = warnings_performed_warn(self + 8u, load64(self), 14u, frame, p211, w75) & 255u;
+                return n216;
+            }
+            p212 = p212 + 8u;
+            w75 = w75 + 1u;
+            if (w75 == w904) {
+                w75 = w904;
+                n216 = warnings_performed_warn(self + 8u, load64(self), 14u, frame, p211, w75) & 255u;
+                return n216;
+            }
+        }
+    }
+    n216 = warnings_performed_warn(self + 8u, load64(self), 14u, frame, p211, w75) & 255u;
     return n216;
 }
 
@@ -28861,7 +29369,7 @@ L170:;
     const u32 n118 = w423 == 0u;
     u32 n217;
     if (n118 == 0u) {
-        const u32 n16 = std_alloc_vec_Vec_grow_amortized4(frame + 8u, w423);
+        const u32 n16 = std_alloc_vec_Vec_grow_amortized3(frame + 8u, w423);
         w78 = load64(frame + 24u);
         if (n16 == 0u) {
             if (w78 == 0u) {
@@ -28920,7 +29428,7 @@ L170:;
     const word p716 = warnings + 8u;
     u64 w852 = load64(p716);
     if (load64(warnings + 16u) == w852) {
-        if (std_alloc_vec_Vec_grow_amortized3(warnings) == 0u) {
+        if (std_alloc_vec_Vec_grow_amortized2(warnings) == 0u) {
             if (w78 == 0u) {
                 n217 = 1u;
                 return n217;
@@ -29535,7 +30043,51 @@ static void warnings_watch_Watch_origin_of_argument(word result, word self, word
 }
 #endif
 
-#if UNITS & 0x20
+#if UNITS & 0x40
+
+/* trac_warnings::watch::Watch::keep_form::<#f933f01a1e4bfb09>. */
+static u32 warnings_watch_Watch_keep_form(word a1, u32 a2, u32 a3) {
+    u64 room[14];
+    const word frame = (word)room;
+    u32 n206 = 0u;
+    store64(frame + 104u, 0u);
+    store64(frame + 96u, 0u);
+    store64(frame + 88u, 0u);
+    store64(frame + 80u, 0u);
+    store64(frame + 72u, 0u);
+    store64(frame + 32u, 0u);
+    store64(frame + 40u, 0u);
+    store64(frame + 48u, 0u);
+    store64(frame + 56u, 0u);
+    store64(frame + 64u, 0u);
+    if ((a2 & 255u) != 1u) {
+        return n206;
+    }
+    const u32 n808 = a3 & 255u;
+    if ((1u << (n808 & 31u)) & 33552351u) {
+        return n206;
+    }
+    if (n808 == 5u) {
+        const u64 w996 = load64(a1);
+        n206 = 1u;
+        events_call_argument(frame, load64(a1 + 240u), load64(a1 + 248u));
+        warnings_performed_characters_of(frame + 72u, w996, load_word(frame), load64(frame + 8u));
+        if (load8(frame + 72u)) {
+            return n206;
+        }
+        n206 = warnings_watch_Watch_define(a1, frame + 80u) & 255u;
+        return n206;
+    }
+    const u64 w996 = load64(a1);
+    n206 = 1u;
+    events_call_argument(frame + 16u, load64(a1 + 240u), load64(a1 + 248u));
+    warnings_performed_characters_of(frame + 32u, w996, load_word(frame + 16u), load64(frame + 24u));
+    if (load8(frame + 32u)) {
+        return n206;
+    }
+    n206 = warnings_watch_Watch_count_call(a1, frame + 40u) & 255u;
+    return n206;
+}
 
 /* trac_warnings::watch::Watch::define::<#f933f01a1e4bfb09>. */
 static u32 warnings_watch_Watch_define(word self, word name) {
@@ -29777,6 +30329,552 @@ static u32 warnings_watch_Watch_count_call(word self, word name) {
     return n216;
 }
 
+/* Follows the steps that a machine is about to make, at most `most`, up to the next one at which something may be
+ * suspicious, and gives how many they are. */
+INTERNAL void warnings_watch_Watch_follow_row(word result, word self, word machine, u64 most) {
+    u64 w68 = 0u;
+    u64 w69 = 0u;
+    const u32 n928 = load32(machine + 28u);
+    const word p31 = n928 - load32(machine + 24u);
+    const word p256 = p31 << 3;
+    const word p521 = load_word(machine);
+    const u64 w681 = (u64)n928 - p31;
+    u64 w46 = w681;
+    const u64 w713 = load64(self + 88u);
+    if (w713 != 0u) {
+        const u64 w607 = w681 - load64(load_word(self + 80u) + ((word)w713 << 5) - 16u);
+        const u64 w92 = w681 < w607 ? 0u : w607;
+        w46 = w92 - (u32)(w92 != 0u);
+    }
+    const word p835 = p521 + p256;
+    const word p382 = self + 40u;
+    u64 w70 = 0u;
+L372:;
+    for (;;) {
+        u32 n216;
+        do {
+            const u64 w353 = w70;
+            if (w353 < most) {
+                if (w46 > w68) {
+                    const u64 w354 = w353;
+                    u64 w301;
+                    {
+                        u64 w71;
+                        u32 n217;
+                        word p100;
+                        u64 w72;
+                        {
+                            {
+                                u64 w189;
+                                {
+                                    word p292;
+                                    {
+                                        {
+                                            word p357 = ((word)w68 << 3) + p835;
+                                            if (load8(p357) == 0u) {
+                                                const u32 n441 = load8(p357 + 1u);
+                                                switch (n441 - 35u) {
+                                                case 9:
+                                                    goto L720;
+                                                case 0:
+                                                {
+                                                    const u64 w302 = w68 + 1u;
+                                                    if (w302 >= w681) {
+                                                        w70 = w353;
+                                                        goto L28;
+                                                    }
+                                                    const word p711 = ((word)w302 << 3) + p835;
+                                                    if (load8(p711)) {
+                                                        w70 = w353;
+                                                        goto L28;
+                                                    }
+                                                    p292 = 2u;
+                                                    w70 = w353;
+                                                    switch (load8(p711 + 1u) - 35u) {
+                                                    case 0:
+                                                        break;
+                                                    case 5:
+                                                        goto L780;
+                                                    default:
+                                                        goto L28;
+                                                    }
+                                                    const u64 w359 = w68 + 2u;
+                                                    if (w359 >= w681) {
+                                                        w70 = w353;
+                                                        goto L28;
+                                                    }
+                                                    const word p852 = ((word)w359 << 3) + p835;
+                                                    if (load8(p852)) {
+                                                        w70 = w353;
+                                                        goto L28;
+                                                    }
+                                                    if (load8(p852 + 1u) == 40u) {
+                                                        p292 = 3u;
+                                                        goto L780;
+                                                    }
+                                                    w70 = w353;
+                                                    goto L28;
+                                                }
+                                                }
+                                                if ((n441 & 254u) == 40u) {
+                                                    w70 = w353;
+                                                    break;
+                                                }
+                                            }
+                                            u64 w73 = 0u;
+                                            {
+                                                const u64 w703 = w46 - w68;
+                                                if (w703 != 0u) {
+                                                    for (;;) {
+                                                        if (load8(p357) == 0u) {
+                                                            const word p567 = load8(p357 + 1u);
+                                                            if (p567 <= 44u) {
+                                                                if ((((u64)1u << (p567 & 63u)) & 20925080666112ull)
+                                                                    != 0u)
+                                                                break;
+                                                            }
+                                                        }
+                                                        p357 = p357 + 8u;
+                                                        w73 = w73 + 1u;
+                                                        if (w73 == w703) {
+                                                            w73 = w703;
+                                                            break;
+                                                        }
+                                                    }
+                                                }
+                                            }
+                                            const u64 w846 = most - w353;
+                                            const u64 w614 = w73 < w846 ? w73 : w846;
+                                            w69 = w69 + w614;
+                                            w68 = w68 + w614;
+                                            w301 = w353 + w614;
+                                            goto L753;
+                                        }
+                                    L720:;
+                                        w189 = load64(self + 56u);
+                                        if (w69 == 0u)
+                                            goto L962;
+                                        w71 = 0u;
+                                        n217 = 0u;
+                                        if (w189 == 0u)
+                                            goto L4;
+                                        word p962 = load_word(self + 48u);
+                                        const word p957 = (word)w189 * 40u;
+                                        const word p461 = p962 + p957;
+                                        const word p536 = p461 - 8u;
+                                        const u64 w540 = load64(p536);
+                                        if (w540 > w69) {
+                                            const word p9 = p461 - 16u;
+                                            u64 w247 = load64(p9);
+                                            const word p992 = p461 - 40u;
+                                            u64 w393 = load64(p992);
+                                            const word p729 = p461 - 32u;
+                                            const word p302 = load8(p729);
+                                            if (p302 == 0u) {
+                                                const u64 w596 = w69 + w393;
+                                                w393 = w69 > w596 ? 18446744073709551615ull : w596;
+                                            } else {
+                                                const u64 w596 = w247 + w69;
+                                                w247 = w69 > w596 ? 18446744073709551615ull : w596;
+                                            }
+                                            store64(p729, p302);
+                                            store64(p992, w393);
+                                            store64(p9, w247);
+                                            const u64 w701 = w540 - w69;
+                                            store64(p536, w540 < w701 ? 0u : w701);
+                                            w189 = load64(self + 56u);
+                                            goto L962;
+                                        }
+                                        word p114 = p957 - 40u;
+                                        while (w189 != 0u) {
+                                            const u64 w641 = w189 - 1u;
+                                            store64(self + 56u, w641);
+                                            const word p596 = p114 + p962;
+                                            const u64 w704 = load64(p596 + 32u);
+                                            if (w704 > w69) {
+                                                u64 w393 = load64(p596);
+                                                u64 w149 = load64(p596 + 24u);
+                                                const word p561 = p596 + 16u;
+                                                const word p188 = load8(p596 + 8u);
+                                                if (p188 == 0u) {
+                                                    const u64 w596 = w69 + w393;
+                                                    w393 = w69 > w596 ? 18446744073709551615ull : w596;
+                                                } else {
+                                                    const u64 w596 = w69 + w149;
+                                                    w149 = w69 > w596 ? 18446744073709551615ull : w596;
+                                                }
+                                                const u64 w202 = load64(p561);
+                                                w70 = 0u;
+                                                word p170;
+                                                if (load64(self + 64u) + 1u == w189) {
+                                                    const word p891 = self + 48u;
+                                                    if (std_alloc_vec_Vec_grow_amortized(p891) == 0u) {
+                                                        n216 = 1u;
+                                                        store64(result + 8u, w70);
+                                                        store8(result, n216);
+                                                        return;
+                                                    }
+                                                    const u64 w190 = load64(self + 56u);
+                                                    w189 = w190 + 1u;
+                                                    p962 = load_word(p891);
+                                                    p170 = (word)w190 * 40u;
+                                                } else {
+                                                    p170 = p114;
+                                                }
+                                                const word p597 = p170 + p962;
+                                                const u64 w721 = w704 - w69;
+                                                store64(p597 + 32u, w704 < w721 ? 0u : w721);
+                                                store64(p597 + 24u, w149);
+                                                store64(p597 + 16u, w202);
+                                                store64(p597 + 8u, p188);
+                                                store64(p597, w393);
+                                                store64(self + 56u, w189);
+                                                goto L962;
+                                            }
+                                            p114 = p114 - 40u;
+                                            w69 = w69 - w704;
+                                            w189 = w641;
+                                            if (w641 == 0u)
+                                                break;
+                                        }
+                                        goto L4;
+                                    }
+                                L780:;
+                                    if (w46 - w68 < p292) {
+                                        w70 = w353;
+                                        break;
+                                    }
+                                    u64 w190 = load64(self + 56u);
+                                    word p68;
+                                    word p101;
+                                    u64 w73;
+                                    u64 w74;
+                                    do {
+                                        do {
+                                            {
+                                                if (w69 != 0u) {
+                                                    p68 = 0u;
+                                                    if (w190 == 0u)
+                                                        break;
+                                                    word p962 = load_word(self + 48u);
+                                                    const word p957 = (word)w190 * 40u;
+                                                    const word p461 = p962 + p957;
+                                                    const word p536 = p461 - 8u;
+                                                    const u64 w540 = load64(p536);
+                                                    if (w540 <= w69) {
+                                                        word p114 = p957 - 40u;
+                                                        while (w190 != 0u) {
+                                                            const u64 w641 = w190 - 1u;
+                                                            store64(self + 56u, w641);
+                                                            const word p596 = p114 + p962;
+                                                            const u64 w704 = load64(p596 + 32u);
+                                                            if (w704 > w69) {
+                                                                u64 w393 = load64(p596);
+                                                                u64 w149 = load64(p596 + 24u);
+                                                                const word p561 = p596 + 16u;
+                                                                const word p188 = load8(p596 + 8u);
+                                                                if (p188 == 0u) {
+                                                                const u64 w596 = w69 + w393;
+                                                                w393 = w69 > w596 ? 18446744073709551615ull : w596;
+                                                                } else {
+                                                                const u64 w596 = w69 + w149;
+                                                                w149 = w69 > w596 ? 18446744073709551615ull : w596;
+                                                                }
+                                                                const u64 w202 = load64(p561);
+                                                                w70 = 0u;
+                                                                word p170;
+                                                                if (load64(self + 64u) + 1u == w190) {
+                                                                const word p891 = self + 48u;
+                                                                if (std_alloc_vec_Vec_grow_amortized(p891) == 0u) {
+                                                                n216 = 1u;
+                                                                store64(result + 8u, w70);
+                                                                store8(result, n216);
+                                                                return;
+                                                                }
+                                                                const u64 w191 = load64(self + 56u);
+                                                                w190 = w191 + 1u;
+                                                                p962 = load_word(p891);
+                                                                p170 = (word)w191 * 40u;
+                                                                } else {
+                                                                p170 = p114;
+                                                                }
+                                                                const word p597 = p170 + p962;
+                                                                const u64 w721 = w704 - w69;
+                                                                store64(p597 + 32u, w704 < w721 ? 0u : w721);
+                                                                store64(p597 + 24u, w149);
+                                                                store64(p597 + 16u, w202);
+                                                                store64(p597 + 8u, p188);
+                                                                store64(p597, w393);
+                                                                store64(self + 56u, w190);
+                                                                goto L963;
+                                                            }
+                                                            p114 = p114 - 40u;
+                                                            w69 = w69 - w704;
+                                                            w190 = w641;
+                                                            if (w641 == 0u)
+                                                                break;
+                                                        }
+                                                        break;
+                                                    }
+                                                    const word p9 = p461 - 16u;
+                                                    u64 w247 = load64(p9);
+                                                    const word p992 = p461 - 40u;
+                                                    u64 w393 = load64(p992);
+                                                    const word p729 = p461 - 32u;
+                                                    const word p302 = load8(p729);
+                                                    if (p302 == 0u) {
+                                                        const u64 w596 = w69 + w393;
+                                                        w393 = w69 > w596 ? 18446744073709551615ull : w596;
+                                                    } else {
+                                                        const u64 w596 = w247 + w69;
+                                                        w247 = w69 > w596 ? 18446744073709551615ull : w596;
+                                                    }
+                                                    store64(p729, p302);
+                                                    store64(p992, w393);
+                                                    store64(p9, w247);
+                                                    const u64 w701 = w540 - w69;
+                                                    store64(p536, w540 < w701 ? 0u : w701);
+                                                    w190 = load64(self + 56u);
+                                                }
+                                            }
+                                        L963:;
+                                            if (w190 == 0u) {
+                                                p68 = 0u;
+                                            } else {
+                                                const word p962 = load_word(self + 48u) + (word)w190 * 40u;
+                                                p101 = p962 - 40u;
+                                                p68 = load8(p962 - 32u);
+                                                w73 = load64(p962 - 24u);
+                                                w74 = load64(p962 - 16u);
+                                                goto L754;
+                                            }
+                                        } while (0);
+                                        p101 = p382;
+                                        w73 = 0u;
+                                        w74 = 0u;
+                                    } while (0);
+                                L754:;
+                                    const u64 w355 = w74;
+                                    const u64 w36 = load64(p101);
+                                    const word p430 = self + 120u;
+                                    u64 w820 = load64(p430);
+                                    if (load64(self + 128u) == w820) {
+                                        if (std_alloc_vec_Vec_grow_amortized4(self + 112u) == 0u) {
+                                            n216 = 1u;
+                                            w70 = 0u;
+                                            store64(result + 8u, w70);
+                                            store8(result, n216);
+                                            return;
+                                        }
+                                        w820 = load64(self + 120u);
+                                    }
+                                    const word p121 = load_word(self + 112u) + ((word)w820 << 5);
+                                    store64(p121, w36);
+                                    store64(p121 + 24u, w355);
+                                    store64(p121 + 16u, w73);
+                                    store64(p121 + 8u, p68);
+                                    store64(p430, w820 + 1u);
+                                    w68 = p292 + w68;
+                                    w69 = p292;
+                                    w301 = w353 + 1u;
+                                    goto L753;
+                                }
+                            L962:;
+                                if (w189 == 0u) {
+                                    w71 = 0u;
+                                    n217 = 0u;
+                                } else {
+                                    const word p962 = load_word(self + 48u) + (word)w189 * 40u;
+                                    p100 = p962 - 40u;
+                                    w71 = load64(p962 - 24u);
+                                    n217 = load8(p962 - 32u);
+                                    w72 = load64(p962 - 16u);
+                                    goto L755;
+                                }
+                            }
+                        L4:;
+                            p100 = p382;
+                            w72 = 0u;
+                        }
+                    L755:;
+                        u64 w96 = w72;
+                        const u32 n74 = w68 >= w681;
+                        w68 = w68 + 1u;
+                        u64 w36 = load64(p100);
+                        do {
+                            if (n74 == 0u) {
+                                if (w68 != w681) {
+                                    const word p45 = n74 ? TABLES + 5032u : ((word)w68 << 3) + p835;
+                                    if (load8(no_address(p45, 1u)) == 0u) {
+                                        if (load8(no_address(p45 + 1u, 1u)) == 40u) {
+                                            if ((n217 & 255u) == 0u) {
+                                                const u64 w359 = w36 + 2u;
+                                                w36 = w36 > w359 ? 18446744073709551615ull : w359;
+                                                n217 = 0u;
+                                                break;
+                                            }
+                                            const u64 w359 = w96 + 2u;
+                                            w96 = w96 > w359 ? 18446744073709551615ull : w359;
+                                            break;
+                                        }
+                                    }
+                                }
+                            }
+                            if ((n217 & 255u) == 0u) {
+                                const u64 w302 = w36 + 1u;
+                                w36 = w302 == 0u ? 18446744073709551615ull : w302;
+                                n217 = 0u;
+                            } else {
+                                const u64 w302 = w96 + 1u;
+                                w96 = w302 == 0u ? 18446744073709551615ull : w302;
+                            }
+                        } while (0);
+                        const word p776 = self + 152u;
+                        u64 w171 = load64(p776);
+                        if (load64(self + 160u) == w171) {
+                            if (std_alloc_vec_Vec_grow_amortized4(self + 144u) == 0u) {
+                                n216 = 1u;
+                                w70 = 0u;
+                                store64(result + 8u, w70);
+                                store8(result, n216);
+                                return;
+                            }
+                            w171 = load64(self + 152u);
+                        }
+                        const word p916 = load_word(self + 144u) + ((word)w171 << 5);
+                        store64(p916, w36);
+                        store64(p916 + 24u, w96);
+                        store64(p916 + 16u, w71);
+                        store64(p916 + 8u, (word)n217 & 255u);
+                        w69 = 1u;
+                        store64(p776, w171 + 1u);
+                        w301 = w353 + 1u;
+                    }
+                L753:;
+                    w70 = w301;
+                    if (w354 < w70)
+                        goto L372;
+                }
+            }
+        } while (0);
+    L28:;
+        n216 = 0u;
+        if (w70 == 0u) {
+            w70 = 0u;
+            store64(result + 8u, w70);
+            store8(result, n216);
+            return;
+        }
+        if (w69 == 0u) {
+            store64(result + 8u, w70);
+            store8(result, n216);
+            return;
+        }
+        u64 w189 = load64(self + 56u);
+        if (w189 == 0u) {
+            store64(result + 8u, w70);
+            store8(result, n216);
+            return;
+        }
+        word p962 = load_word(self + 48u);
+        const word p957 = (word)w189 * 40u;
+        const word p461 = p962 + p957;
+        const word p536 = p461 - 8u;
+        const u64 w540 = load64(p536);
+        if (w540 > w69) {
+            const word p9 = p461 - 16u;
+            u64 w247 = load64(p9);
+            const word p992 = p461 - 40u;
+            u64 w393 = load64(p992);
+            const word p729 = p461 - 32u;
+            const word p302 = load8(p729);
+            u64 w701;
+            if (p302 == 0u) {
+                const u64 w596 = w69 + w393;
+                w393 = w69 > w596 ? 18446744073709551615ull : w596;
+                store64(p729, p302);
+                store64(p992, w393);
+                store64(p9, w247);
+                w701 = w540 - w69;
+                store64(p536, w540 < w701 ? 0u : w701);
+                store64(result + 8u, w70);
+                store8(result, n216);
+                return;
+            }
+            const u64 w596 = w247 + w69;
+            w247 = w69 > w596 ? 18446744073709551615ull : w596;
+            store64(p729, p302);
+            store64(p992, w393);
+            store64(p9, w247);
+            w701 = w540 - w69;
+            store64(p536, w540 < w701 ? 0u : w701);
+            store64(result + 8u, w70);
+            store8(result, n216);
+            return;
+        }
+        word p114 = p957 - 40u;
+        do {
+            if (w189 == 0u) {
+                store64(result + 8u, w70);
+                store8(result, n216);
+                return;
+            }
+            const u64 w641 = w189 - 1u;
+            store64(self + 56u, w641);
+            const word p596 = p114 + p962;
+            const u64 w704 = load64(p596 + 32u);
+            if (w704 > w69) {
+                u64 w393 = load64(p596);
+                u64 w149 = load64(p596 + 24u);
+                const word p561 = p596 + 16u;
+                const word p188 = load8(p596 + 8u);
+                if (p188 == 0u) {
+                    const u64 w596 = w393 + w69;
+                    w393 = w69 > w596 ? 18446744073709551615ull : w596;
+                } else {
+                    const u64 w596 = w69 + w149;
+                    w149 = w69 > w596 ? 18446744073709551615ull : w596;
+                }
+                const u64 w202 = load64(p561);
+                word p170;
+                if (load64(self + 64u) + 1u == w189) {
+                    const word p891 = self + 48u;
+                    if (std_alloc_vec_Vec_grow_amortized(p891) == 0u) {
+                        n216 = 1u;
+                        w70 = 0u;
+                        store64(result + 8u, w70);
+                        store8(result, n216);
+                        return;
+                    }
+                    const u64 w190 = load64(self + 56u);
+                    w189 = w190 + 1u;
+                    p962 = load_word(p891);
+                    p170 = (word)w190 * 40u;
+                } else {
+                    p170 = p114;
+                }
+                const word p597 = p170 + p962;
+                const u64 w721 = w704 - w69;
+                store64(p597 + 32u, w704 < w721 ? 0u : w721);
+                store64(p597 + 24u, w149);
+                store64(p597 + 16u, w202);
+                store64(p597 + 8u, p188);
+                store64(p597, w393);
+                store64(self + 56u, w189);
+                store64(result + 8u, w70);
+                store8(result, n216);
+                return;
+            }
+            p114 = p114 - 40u;
+            w69 = w69 - w704;
+            w189 = w641;
+        } while (w189 != 0u);
+        store64(result + 8u, w70);
+        store8(result, n216);
+        return;
+    }
+}
+
 /* trac_warnings::watch::Watch::warn_of_read::<#f933f01a1e4bfb09>. */
 INTERNAL u32 warnings_watch_Watch_warn_of_read(word a1, word a2, u64 a3, u64 a4, word a5, u64 a6) {
     u64 room[8];
@@ -29963,12 +31061,9 @@ L324:;
     }
     return n89;
 }
-#endif
-
-#if UNITS & 0x80
 
 /* trac_warnings::watch::Watch::move_on::<#f933f01a1e4bfb09>. */
-static u32 warnings_watch_Watch_move_on(word self, word before, word machine, word value) {
+INTERNAL u32 warnings_watch_Watch_move_on(word self, word before, word machine, word value) {
     u64 w681;
     u64 w34;
     u64 w633;
@@ -30226,9 +31321,6 @@ static u32 warnings_watch_Watch_move_on(word self, word before, word machine, wo
     store64(p401, w189 + 1u);
     return 0u;
 }
-#endif
-
-#if UNITS & 0x20
 
 /* Adds what is suspicious in how a script is written. */
 INTERNAL u32 warnings_written_look_at_script(word warnings, u64 alloc, u64 input, u64 input_len) {
@@ -30246,7 +31338,7 @@ INTERNAL u32 warnings_written_look_at_script(word warnings, u64 alloc, u64 input
                             const word p716 = warnings + 8u;
                             u64 w852 = load64(p716);
                             if (load64(warnings + 16u) == w852) {
-                                const u32 n144 = std_alloc_vec_Vec_grow_amortized3(warnings);
+                                const u32 n144 = std_alloc_vec_Vec_grow_amortized2(warnings);
                                 n375 = 1u;
                                 if (n144 == 0u) {
                                     return n375;
@@ -30440,7 +31532,7 @@ static u32 warnings_written_look_at_lines(word warnings, u64 alloc, word input, 
     const word p716 = warnings + 8u;
     u64 w852 = load64(p716);
     if (load64(warnings + 16u) == w852) {
-        if (std_alloc_vec_Vec_grow_amortized3(warnings) == 0u) {
+        if (std_alloc_vec_Vec_grow_amortized2(warnings) == 0u) {
             n217 = 1u;
             return n217;
         }
@@ -30676,7 +31768,7 @@ static void warnings_written_look_at_mark(word result, word warnings, u64 alloc,
                     const word p716 = warnings + 8u;
                     u64 w852 = load64(p716);
                     if (load64(warnings + 16u) == w852) {
-                        const u32 n144 = std_alloc_vec_Vec_grow_amortized3(warnings);
+                        const u32 n144 = std_alloc_vec_Vec_grow_amortized2(warnings);
                         n92 = 1u;
                         if (n144 == 0u)
                             break;
@@ -30764,7 +31856,7 @@ static u32 warnings_written_warn_at(word warnings, u64 alloc, u32 suspicion, u64
     const u32 n911 = bytes_len == 0u;
     u32 n216;
     if (n911 == 0u) {
-        const u32 n395 = std_alloc_vec_Vec_grow_amortized4(frame + 8u, bytes_len);
+        const u32 n395 = std_alloc_vec_Vec_grow_amortized3(frame + 8u, bytes_len);
         w68 = load64(frame + 24u);
         if (n395 == 0u) {
             n216 = 1u;
@@ -30828,7 +31920,7 @@ static u32 warnings_written_warn_at(word warnings, u64 alloc, u32 suspicion, u64
     const word p716 = warnings + 8u;
     u64 w852 = load64(p716);
     if (load64(warnings + 16u) == w852) {
-        if (std_alloc_vec_Vec_grow_amortized3(warnings) == 0u) {
+        if (std_alloc_vec_Vec_grow_amortized2(warnings) == 0u) {
             n216 = 1u;
             if (w68 == 0u) {
                 return n216;
@@ -30866,7 +31958,7 @@ static u32 warnings_written_warn_at(word warnings, u64 alloc, u32 suspicion, u64
 
 /* ---- The crate trac_views ---- */
 
-#if UNITS & 0x40
+#if UNITS & 0x20
 
 /* Adds the line of a call: */
 static u32 views_calls_push_call(word line, u64 alloc, word called, u32 width) {
@@ -30891,7 +31983,7 @@ static u32 views_calls_push_call(word line, u64 alloc, word called, u32 width) {
             w30 = load64(line + 16u);
             do {
                 if (w30 - w359 <= 1u) {
-                    if (std_alloc_vec_Vec_grow_amortized4(line, 2u) == 0u) {
+                    if (std_alloc_vec_Vec_grow_amortized3(line, 2u) == 0u) {
                         return n70;
                     }
                     w30 = load64(line + 16u);
@@ -30907,7 +31999,7 @@ static u32 views_calls_push_call(word line, u64 alloc, word called, u32 width) {
             } while (w641 != 0u);
         }
         if (w30 - w359 <= 1u) {
-            if (std_alloc_vec_Vec_grow_amortized4(line, 2u) == 0u) {
+            if (std_alloc_vec_Vec_grow_amortized3(line, 2u) == 0u) {
                 return n70;
             }
             w30 = load64(line + 16u);
@@ -30923,7 +32015,7 @@ static u32 views_calls_push_call(word line, u64 alloc, word called, u32 width) {
         w30 = load64(line + 16u);
         do {
             if (w30 - w359 <= 1u) {
-                if (std_alloc_vec_Vec_grow_amortized4(line, 2u) == 0u) {
+                if (std_alloc_vec_Vec_grow_amortized3(line, 2u) == 0u) {
                     return n70;
                 }
                 w30 = load64(line + 16u);
@@ -30938,7 +32030,7 @@ static u32 views_calls_push_call(word line, u64 alloc, word called, u32 width) {
             w589 = w589 - 1u;
         } while (w589 != 0u);
         if (w30 - w359 <= 1u) {
-            if (std_alloc_vec_Vec_grow_amortized4(line, 2u) == 0u) {
+            if (std_alloc_vec_Vec_grow_amortized3(line, 2u) == 0u) {
                 return n70;
             }
             w30 = load64(line + 16u);
@@ -30958,7 +32050,7 @@ static u32 views_calls_push_call(word line, u64 alloc, word called, u32 width) {
         const u64 w411 = itoa_integer_write_unsigned(w641, frame + 8u);
         const u64 w972 = 40u - w411;
         if (w30 - w360 < w972) {
-            if (std_alloc_vec_Vec_grow_amortized4(line, w972) == 0u) {
+            if (std_alloc_vec_Vec_grow_amortized3(line, w972) == 0u) {
                 return n70;
             }
             w30 = load64(line + 16u);
@@ -30975,7 +32067,7 @@ static u32 views_calls_push_call(word line, u64 alloc, word called, u32 width) {
         store64(p200, w377);
         store64(line, w571);
         if (w377 == w30) {
-            if (std_alloc_vec_Vec_grow_amortized4(line, 1u) == 0u) {
+            if (std_alloc_vec_Vec_grow_amortized3(line, 1u) == 0u) {
                 return n70;
             }
             w30 = load64(line + 16u);
@@ -30991,7 +32083,7 @@ static u32 views_calls_push_call(word line, u64 alloc, word called, u32 width) {
     const u32 n997 = load8(called + 8u);
     const word p695 = n997 ? 3u : 2u;
     if (w30 - w301 < p695) {
-        if (std_alloc_vec_Vec_grow_amortized4(line, p695) == 0u) {
+        if (std_alloc_vec_Vec_grow_amortized3(line, p695) == 0u) {
             return n70;
         }
         w30 = load64(line + 16u);
@@ -31054,7 +32146,7 @@ static u32 views_calls_push_results(word line, u64 alloc, word called, u32 width
     u32 n116;
     if (w30 - w377 < p514) {
         n116 = 1u;
-        if (std_alloc_vec_Vec_grow_amortized4(line, p514) == 0u) {
+        if (std_alloc_vec_Vec_grow_amortized3(line, p514) == 0u) {
             return n116;
         }
         w30 = load64(line + 16u);
@@ -31087,7 +32179,7 @@ static u32 views_calls_push_results(word line, u64 alloc, word called, u32 width
     u64 w31 = load64(p576);
     u64 w378 = load64(p200);
     if (w31 - w378 < p12) {
-        if (std_alloc_vec_Vec_grow_amortized4(line, p12) == 0u) {
+        if (std_alloc_vec_Vec_grow_amortized3(line, p12) == 0u) {
             return n116;
         }
         w378 = load64(line + 8u);
@@ -31124,7 +32216,7 @@ static u32 views_calls_push_results(word line, u64 alloc, word called, u32 width
 }
 
 /* Adds the names of the forms that a call with these arguments deletes: */
-static u32 views_deleted_push_deleted(word line, u64 alloc, u32 touched, word arguments, u64 arguments_len, word
+INTERNAL u32 views_deleted_push_deleted(word line, u64 alloc, u32 touched, word arguments, u64 arguments_len, word
     machine, u32 width) {
     u64 room[6];
     const word frame = (word)room;
@@ -31275,7 +32367,7 @@ static u32 views_deleted_push_deleted(word line, u64 alloc, u32 touched, word ar
                     u64 w30 = load64(line + 16u);
                     u64 w377 = load64(line + 8u);
                     if (w30 - w377 <= 8u) {
-                        if (std_alloc_vec_Vec_grow_amortized4(line, 9u) == 0u)
+                        if (std_alloc_vec_Vec_grow_amortized3(line, 9u) == 0u)
                             goto L629;
                         w30 = load64(line + 16u);
                         w377 = load64(line + 8u);
@@ -31322,7 +32414,7 @@ static u32 views_deleted_push_deleted(word line, u64 alloc, u32 touched, word ar
             u64 w30 = load64(line + 16u);
             u64 w377 = load64(line + 8u);
             if (w30 - w377 <= 8u) {
-                if (std_alloc_vec_Vec_grow_amortized4(line, 9u) == 0u)
+                if (std_alloc_vec_Vec_grow_amortized3(line, 9u) == 0u)
                     break;
                 w30 = load64(line + 16u);
                 w377 = load64(line + 8u);
@@ -31399,7 +32491,7 @@ static u32 views_escapes_push_cut(word line, word bytes, u64 bytes_len, u32 widt
                         const word p200 = line + 8u;
                         u64 w377 = load64(p200);
                         if (w30 == w377) {
-                            if (std_alloc_vec_Vec_grow_amortized4(line, 1u) == 0u) {
+                            if (std_alloc_vec_Vec_grow_amortized3(line, 1u) == 0u) {
                                 n216 = 1u;
                                 return n216;
                             }
@@ -31423,7 +32515,7 @@ static u32 views_escapes_push_cut(word line, word bytes, u64 bytes_len, u32 widt
             u64 w30 = load64(line + 16u);
             u64 w377 = load64(line + 8u);
             if (w30 - w377 <= 3u) {
-                if (std_alloc_vec_Vec_grow_amortized4(line, 4u) == 0u) {
+                if (std_alloc_vec_Vec_grow_amortized3(line, 4u) == 0u) {
                     n216 = 1u;
                     return n216;
                 }
@@ -31456,7 +32548,7 @@ static u32 views_escapes_push_cut(word line, word bytes, u64 bytes_len, u32 widt
                     const word p200 = line + 8u;
                     u64 w378 = load64(p200);
                     if (w31 == w378) {
-                        if (std_alloc_vec_Vec_grow_amortized4(line, 1u) == 0u) {
+                        if (std_alloc_vec_Vec_grow_amortized3(line, 1u) == 0u) {
                             n216 = 1u;
                             return n216;
                         }
@@ -31493,7 +32585,7 @@ static u32 views_escapes_push_cut(word line, word bytes, u64 bytes_len, u32 widt
             const word p200 = line + 8u;
             u64 w377 = load64(p200);
             if (w30 == w377) {
-                if (std_alloc_vec_Vec_grow_amortized4(line, 1u) == 0u) {
+                if (std_alloc_vec_Vec_grow_amortized3(line, 1u) == 0u) {
                     n216 = 1u;
                     return n216;
                 }
@@ -31537,7 +32629,7 @@ static u32 views_escapes_push_text(word line, word bytes, u64 bytes_len) {
                     u64 w30 = load64(line + 16u);
                     u64 w377 = load64(line + 8u);
                     if (w30 - w377 <= 1u) {
-                        if (std_alloc_vec_Vec_grow_amortized4(line, 2u) == 0u) {
+                        if (std_alloc_vec_Vec_grow_amortized3(line, 2u) == 0u) {
                             return 1u;
                         }
                         w30 = load64(line + 16u);
@@ -31561,7 +32653,7 @@ static u32 views_escapes_push_text(word line, word bytes, u64 bytes_len) {
                     u64 w30 = load64(line + 16u);
                     u64 w377 = load64(line + 8u);
                     if (w30 - w377 <= 1u) {
-                        if (std_alloc_vec_Vec_grow_amortized4(line, 2u) == 0u) {
+                        if (std_alloc_vec_Vec_grow_amortized3(line, 2u) == 0u) {
                             return 1u;
                         }
                         w30 = load64(line + 16u);
@@ -31585,7 +32677,7 @@ static u32 views_escapes_push_text(word line, word bytes, u64 bytes_len) {
                     u64 w30 = load64(line + 16u);
                     u64 w377 = load64(line + 8u);
                     if (w30 - w377 <= 1u) {
-                        if (std_alloc_vec_Vec_grow_amortized4(line, 2u) == 0u) {
+                        if (std_alloc_vec_Vec_grow_amortized3(line, 2u) == 0u) {
                             return 1u;
                         }
                         w30 = load64(line + 16u);
@@ -31612,7 +32704,7 @@ static u32 views_escapes_push_text(word line, word bytes, u64 bytes_len) {
                         const word p200 = line + 8u;
                         u64 w377 = load64(p200);
                         if (w30 - w377 <= 1u) {
-                            if (std_alloc_vec_Vec_grow_amortized4(line, 2u) == 0u) {
+                            if (std_alloc_vec_Vec_grow_amortized3(line, 2u) == 0u) {
                                 return 1u;
                             }
                             w30 = load64(line + 16u);
@@ -31638,7 +32730,7 @@ static u32 views_escapes_push_text(word line, word bytes, u64 bytes_len) {
                         const word p200 = line + 8u;
                         u64 w377 = load64(p200);
                         if (w30 - w377 <= 3u) {
-                            if (std_alloc_vec_Vec_grow_amortized4(line, 4u) == 0u) {
+                            if (std_alloc_vec_Vec_grow_amortized3(line, 4u) == 0u) {
                                 return 1u;
                             }
                             w30 = load64(line + 16u);
@@ -31655,7 +32747,7 @@ static u32 views_escapes_push_text(word line, word bytes, u64 bytes_len) {
                         const word p200 = line + 8u;
                         u64 w377 = load64(p200);
                         if (w30 == w377) {
-                            if (std_alloc_vec_Vec_grow_amortized4(line, 1u) == 0u) {
+                            if (std_alloc_vec_Vec_grow_amortized3(line, 1u) == 0u) {
                                 return 1u;
                             }
                             w30 = load64(line + 16u);
@@ -31676,7 +32768,7 @@ static u32 views_escapes_push_text(word line, word bytes, u64 bytes_len) {
                 const word p200 = line + 8u;
                 u64 w377 = load64(p200);
                 if (w30 == w377) {
-                    if (std_alloc_vec_Vec_grow_amortized4(line, 1u) == 0u) {
+                    if (std_alloc_vec_Vec_grow_amortized3(line, 1u) == 0u) {
                         return 1u;
                     }
                     w30 = load64(line + 16u);
@@ -31895,7 +32987,7 @@ static u32 views_escapes_push_cells_cut(word line, u64 alloc, word cells, u64 ce
                     u64 w920 = load64(frame + 24u);
                     u64 w61 = load64(frame + 16u);
                     if (w920 == w61) {
-                        if (std_alloc_vec_Vec_grow_amortized4(frame + 8u, 1u) == 0u)
+                        if (std_alloc_vec_Vec_grow_amortized3(frame + 8u, 1u) == 0u)
                             goto L104;
                         w920 = load64(frame + 24u);
                         w61 = load64(frame + 16u);
@@ -31911,7 +33003,7 @@ static u32 views_escapes_push_cells_cut(word line, u64 alloc, word cells, u64 ce
                     u64 w920 = load64(frame + 24u);
                     u64 w61 = load64(frame + 16u);
                     if (w920 - w61 <= 2u) {
-                        if (std_alloc_vec_Vec_grow_amortized4(frame + 8u, 3u) == 0u)
+                        if (std_alloc_vec_Vec_grow_amortized3(frame + 8u, 3u) == 0u)
                             goto L104;
                         w512 = load64(frame + 8u);
                         w920 = load64(frame + 24u);
@@ -32003,7 +33095,7 @@ static u32 views_escapes_push_name(word line, u64 alloc, word cells, u64 cells_l
             }
             u64 w62 = load64(frame + 16u);
             if (load64(frame + 24u) == w62) {
-                if (std_alloc_vec_Vec_grow_amortized4(frame + 8u, 1u) == 0u) {
+                if (std_alloc_vec_Vec_grow_amortized3(frame + 8u, 1u) == 0u) {
                     n375 = 1u;
                     const u64 w920 = load64(frame + 24u);
                     if (w920 == 0u) {
@@ -32112,7 +33204,7 @@ static u32 views_events_push_event(word lines, u64 alloc, word views, word event
         const word p136 = lines + 8u;
         u64 w949 = load64(p136);
         if (w899 - w949 <= 14u) {
-            if (std_alloc_vec_Vec_grow_amortized4(lines, 15u) == 0u) {
+            if (std_alloc_vec_Vec_grow_amortized3(lines, 15u) == 0u) {
                 n216 = 1u;
                 return n216;
             }
@@ -32142,7 +33234,7 @@ static u32 views_events_push_event(word lines, u64 alloc, word views, word event
         const u64 w109 = itoa_integer_write_unsigned(n898, frame + 136u);
         const u64 w299 = 40u - w109;
         if (w899 - w883 < w299) {
-            if (std_alloc_vec_Vec_grow_amortized4(lines, w299) == 0u) {
+            if (std_alloc_vec_Vec_grow_amortized3(lines, w299) == 0u) {
                 n216 = 1u;
                 return n216;
             }
@@ -32158,7 +33250,7 @@ static u32 views_events_push_event(word lines, u64 alloc, word views, word event
         store64(lines + 8u, w93);
         store64(lines, w318);
         if (w899 - w93 <= 50u) {
-            if (std_alloc_vec_Vec_grow_amortized4(lines, 51u) == 0u) {
+            if (std_alloc_vec_Vec_grow_amortized3(lines, 51u) == 0u) {
                 n216 = 1u;
                 return n216;
             }
@@ -32211,7 +33303,7 @@ static u32 views_events_push_event(word lines, u64 alloc, word views, word event
         const word p136 = lines + 8u;
         u64 w949 = load64(p136);
         if (w899 - w949 <= 15u) {
-            if (std_alloc_vec_Vec_grow_amortized4(lines, 16u) == 0u) {
+            if (std_alloc_vec_Vec_grow_amortized3(lines, 16u) == 0u) {
                 n216 = 1u;
                 return n216;
             }
@@ -32246,7 +33338,7 @@ static u32 views_events_push_event(word lines, u64 alloc, word views, word event
         const word p137 = lines + 8u;
         u64 w950 = load64(p137);
         if (w900 == w950) {
-            if (std_alloc_vec_Vec_grow_amortized4(lines, 1u) == 0u) {
+            if (std_alloc_vec_Vec_grow_amortized3(lines, 1u) == 0u) {
                 return n216;
             }
             w950 = load64(lines + 8u);
@@ -32299,7 +33391,7 @@ static u32 views_events_push_event(word lines, u64 alloc, word views, word event
     const word p136 = lines + 8u;
     u64 w949 = load64(p136);
     if (w899 == w949) {
-        if (std_alloc_vec_Vec_grow_amortized4(lines, 1u) == 0u) {
+        if (std_alloc_vec_Vec_grow_amortized3(lines, 1u) == 0u) {
             return n216;
         }
         w899 = load64(lines + 16u);
@@ -32314,7 +33406,7 @@ static u32 views_events_push_event(word lines, u64 alloc, word views, word event
     const u32 n828 = w672 == 0u;
     const word p845 = n828 ? 0u : 6u;
     if (w899 - w301 < p845) {
-        if (std_alloc_vec_Vec_grow_amortized4(lines, p845) == 0u) {
+        if (std_alloc_vec_Vec_grow_amortized3(lines, p845) == 0u) {
             return n216;
         }
         w899 = load64(lines + 16u);
@@ -32338,7 +33430,7 @@ static u32 views_events_push_event(word lines, u64 alloc, word views, word event
     store64(lines + 16u, w899);
     store64(lines + 8u, w652);
     if (w899 - w652 < w672) {
-        if (std_alloc_vec_Vec_grow_amortized4(lines, w672) == 0u) {
+        if (std_alloc_vec_Vec_grow_amortized3(lines, w672) == 0u) {
             return n216;
         }
         w899 = load64(lines + 16u);
@@ -32383,7 +33475,7 @@ static u32 views_events_push_event(word lines, u64 alloc, word views, word event
     store64(lines + 16u, w899);
     store64(lines + 8u, w419);
     if (w899 - w419 < w51) {
-        if (std_alloc_vec_Vec_grow_amortized4(lines, w51) == 0u) {
+        if (std_alloc_vec_Vec_grow_amortized3(lines, w51) == 0u) {
             return n216;
         }
         w899 = load64(lines + 16u);
@@ -32430,7 +33522,7 @@ static u32 views_events_push_event(word lines, u64 alloc, word views, word event
     const word p137 = lines + 8u;
     store64(p137, w347);
     if (w899 == w347) {
-        if (std_alloc_vec_Vec_grow_amortized4(lines, 1u) == 0u) {
+        if (std_alloc_vec_Vec_grow_amortized3(lines, 1u) == 0u) {
             return n216;
         }
         w899 = load64(lines + 16u);
@@ -32458,7 +33550,7 @@ static u32 views_faults_push_fault(word lines, u64 alloc, word machine, u64 stri
     u64 w949 = load64(p136);
     u32 n375;
     if (w899 - w949 <= 7u) {
-        if (std_alloc_vec_Vec_grow_amortized4(lines, 8u) == 0u) {
+        if (std_alloc_vec_Vec_grow_amortized3(lines, 8u) == 0u) {
             n375 = 1u;
             return n375;
         }
@@ -32486,7 +33578,7 @@ static u32 views_faults_push_fault(word lines, u64 alloc, word machine, u64 stri
     const u64 w117 = itoa_integer_write_unsigned(w251, frame + 8u);
     const u64 w563 = 40u - w117;
     if (w899 - w759 < w563) {
-        if (std_alloc_vec_Vec_grow_amortized4(lines, w563) == 0u) {
+        if (std_alloc_vec_Vec_grow_amortized3(lines, w563) == 0u) {
             n375 = 1u;
             return n375;
         }
@@ -32502,7 +33594,7 @@ static u32 views_faults_push_fault(word lines, u64 alloc, word machine, u64 stri
     store64(lines + 8u, w599);
     store64(lines, w318);
     if (w899 - w599 <= 30u) {
-        if (std_alloc_vec_Vec_grow_amortized4(lines, 31u) == 0u) {
+        if (std_alloc_vec_Vec_grow_amortized3(lines, 31u) == 0u) {
             n375 = 1u;
             return n375;
         }
@@ -32531,7 +33623,7 @@ static u32 views_faults_push_fault(word lines, u64 alloc, word machine, u64 stri
     store64(lines + 16u, w899);
     store64(lines + 8u, w705);
     if (w899 - w705 <= 4u) {
-        if (std_alloc_vec_Vec_grow_amortized4(lines, 5u) == 0u) {
+        if (std_alloc_vec_Vec_grow_amortized3(lines, 5u) == 0u) {
             n375 = 1u;
             return n375;
         }
@@ -32559,7 +33651,7 @@ static u32 views_faults_push_fault(word lines, u64 alloc, word machine, u64 stri
     const u64 w217 = itoa_integer_write_unsigned(string_line, frame + 8u);
     const u64 w141 = 40u - w217;
     if (w899 - w430 < w141) {
-        if (std_alloc_vec_Vec_grow_amortized4(lines, w141) == 0u) {
+        if (std_alloc_vec_Vec_grow_amortized3(lines, w141) == 0u) {
             n375 = 1u;
             return n375;
         }
@@ -32575,7 +33667,7 @@ static u32 views_faults_push_fault(word lines, u64 alloc, word machine, u64 stri
     store64(lines + 8u, w546);
     store64(lines, w318);
     if (w899 - w546 <= 8u) {
-        if (std_alloc_vec_Vec_grow_amortized4(lines, 9u) == 0u) {
+        if (std_alloc_vec_Vec_grow_amortized3(lines, 9u) == 0u) {
             n375 = 1u;
             return n375;
         }
@@ -32603,7 +33695,7 @@ static u32 views_faults_push_fault(word lines, u64 alloc, word machine, u64 stri
     const u64 w187 = itoa_integer_write_unsigned(string_column, frame + 8u);
     const u64 w611 = 40u - w187;
     if (w899 - w72 < w611) {
-        if (std_alloc_vec_Vec_grow_amortized4(lines, w611) == 0u) {
+        if (std_alloc_vec_Vec_grow_amortized3(lines, w611) == 0u) {
             n375 = 1u;
             return n375;
         }
@@ -32621,7 +33713,7 @@ static u32 views_faults_push_fault(word lines, u64 alloc, word machine, u64 stri
     store64(p137, w691);
     store64(lines, w318);
     if (w691 == w899) {
-        if (std_alloc_vec_Vec_grow_amortized4(lines, 1u) == 0u) {
+        if (std_alloc_vec_Vec_grow_amortized3(lines, 1u) == 0u) {
             n375 = 1u;
             return n375;
         }
@@ -32671,7 +33763,7 @@ static u32 views_faults_push_fault(word lines, u64 alloc, word machine, u64 stri
         u64 w136 = w68 < w920 ? 0u : w920;
         if (w68 > 5u) {
             if (w899 - w301 <= 24u) {
-                if (std_alloc_vec_Vec_grow_amortized4(lines, 25u) == 0u) {
+                if (std_alloc_vec_Vec_grow_amortized3(lines, 25u) == 0u) {
                     n375 = 1u;
                     return n375;
                 }
@@ -32705,7 +33797,7 @@ static u32 views_faults_push_fault(word lines, u64 alloc, word machine, u64 stri
             const u64 w411 = itoa_integer_write_unsigned(w136, frame + 8u);
             const u64 w303 = 40u - w411;
             if (w899 - w553 < w303) {
-                if (std_alloc_vec_Vec_grow_amortized4(lines, w303) == 0u) {
+                if (std_alloc_vec_Vec_grow_amortized3(lines, w303) == 0u) {
                     n375 = 1u;
                     return n375;
                 }
@@ -32723,7 +33815,7 @@ static u32 views_faults_push_fault(word lines, u64 alloc, word machine, u64 stri
             store64(p138, w602);
             store64(lines, w318);
             if (w602 == w899) {
-                if (std_alloc_vec_Vec_grow_amortized4(lines, 1u) == 0u) {
+                if (std_alloc_vec_Vec_grow_amortized3(lines, 1u) == 0u) {
                     n375 = 1u;
                     return n375;
                 }
@@ -32768,7 +33860,7 @@ static u32 views_faults_push_fault(word lines, u64 alloc, word machine, u64 stri
                     }
                     const u32 n698 = load8(p839);
                     if (w899 - w301 <= 10u) {
-                        if (std_alloc_vec_Vec_grow_amortized4(lines, 11u) == 0u) {
+                        if (std_alloc_vec_Vec_grow_amortized3(lines, 11u) == 0u) {
                             n375 = 1u;
                             return n375;
                         }
@@ -32792,7 +33884,7 @@ static u32 views_faults_push_fault(word lines, u64 alloc, word machine, u64 stri
                     const u32 n121 = n698 & 255u;
                     const word p418 = n121 ? 3u : 2u;
                     if (w899 - w369 < p418) {
-                        if (std_alloc_vec_Vec_grow_amortized4(lines, p418) == 0u) {
+                        if (std_alloc_vec_Vec_grow_amortized3(lines, p418) == 0u) {
                             n375 = 1u;
                             return n375;
                         }
@@ -32828,7 +33920,7 @@ static u32 views_faults_push_fault(word lines, u64 alloc, word machine, u64 stri
                     w899 = load64(p523);
                     u64 w950 = load64(p138);
                     if (w899 == w950) {
-                        if (std_alloc_vec_Vec_grow_amortized4(lines, 1u) == 0u) {
+                        if (std_alloc_vec_Vec_grow_amortized3(lines, 1u) == 0u) {
                             return n375;
                         }
                         w899 = load64(lines + 16u);
@@ -32860,7 +33952,7 @@ static u32 views_faults_push_fault(word lines, u64 alloc, word machine, u64 stri
     u64 w900 = load64(lines + 16u);
     u64 w950 = load64(lines + 8u);
     if (w900 - w950 <= 12u) {
-        if (std_alloc_vec_Vec_grow_amortized4(lines, 13u) == 0u) {
+        if (std_alloc_vec_Vec_grow_amortized3(lines, 13u) == 0u) {
             return n375;
         }
         w950 = load64(lines + 8u);
@@ -32894,7 +33986,7 @@ static u32 views_faults_push_fault(word lines, u64 alloc, word machine, u64 stri
     const u64 w853 = itoa_integer_write_unsigned(w835, frame + 8u);
     const u64 w302 = 40u - w853;
     if (w900 - w85 < w302) {
-        if (std_alloc_vec_Vec_grow_amortized4(lines, w302) == 0u) {
+        if (std_alloc_vec_Vec_grow_amortized3(lines, w302) == 0u) {
             return n375;
         }
         w85 = load64(lines + 8u);
@@ -32909,7 +34001,7 @@ static u32 views_faults_push_fault(word lines, u64 alloc, word machine, u64 stri
     store64(lines + 8u, w602);
     store64(lines, w319);
     if (w900 - w602 <= 16u) {
-        if (std_alloc_vec_Vec_grow_amortized4(lines, 17u) == 0u) {
+        if (std_alloc_vec_Vec_grow_amortized3(lines, 17u) == 0u) {
             return n375;
         }
         w602 = load64(lines + 8u);
@@ -32940,7 +34032,7 @@ static u32 views_faults_push_fault(word lines, u64 alloc, word machine, u64 stri
     const u64 w398 = itoa_integer_write_unsigned(w185, frame + 8u);
     const u64 w943 = 40u - w398;
     if (w900 - w530 < w943) {
-        if (std_alloc_vec_Vec_grow_amortized4(lines, w943) == 0u) {
+        if (std_alloc_vec_Vec_grow_amortized3(lines, w943) == 0u) {
             return n375;
         }
         w530 = load64(lines + 8u);
@@ -32955,7 +34047,7 @@ static u32 views_faults_push_fault(word lines, u64 alloc, word machine, u64 stri
     store64(lines + 8u, w604);
     store64(lines, w319);
     if (w900 - w604 <= 15u) {
-        if (std_alloc_vec_Vec_grow_amortized4(lines, 16u) == 0u) {
+        if (std_alloc_vec_Vec_grow_amortized3(lines, 16u) == 0u) {
             return n375;
         }
         w604 = load64(lines + 8u);
@@ -32984,7 +34076,7 @@ static u32 views_faults_push_fault(word lines, u64 alloc, word machine, u64 stri
     const u64 w252 = itoa_integer_write_unsigned(w681, frame + 8u);
     const u64 w592 = 40u - w252;
     if (w900 - w153 < w592) {
-        if (std_alloc_vec_Vec_grow_amortized4(lines, w592) == 0u) {
+        if (std_alloc_vec_Vec_grow_amortized3(lines, w592) == 0u) {
             return n375;
         }
         w153 = load64(lines + 8u);
@@ -33019,7 +34111,7 @@ static u32 views_forms_push_form(word line, u64 alloc, word form, u32 width) {
     u64 w30 = load64(line + 16u);
     u64 w377 = load64(line + 8u);
     if (w30 - w377 <= 1u) {
-        if (std_alloc_vec_Vec_grow_amortized4(line, 2u) == 0u) {
+        if (std_alloc_vec_Vec_grow_amortized3(line, 2u) == 0u) {
             return n375;
         }
         w30 = load64(line + 16u);
@@ -33047,7 +34139,7 @@ static u32 views_forms_push_form(word line, u64 alloc, word form, u32 width) {
             u64 w61 = load64(frame + 16u);
             u64 w881 = load64(frame + 8u);
             if (w61 == w881) {
-                if (std_alloc_vec_Vec_grow_amortized4(frame, 1u) == 0u)
+                if (std_alloc_vec_Vec_grow_amortized3(frame, 1u) == 0u)
                     break;
                 w61 = load64(frame + 16u);
                 w881 = load64(frame + 8u);
@@ -33057,7 +34149,7 @@ static u32 views_forms_push_form(word line, u64 alloc, word form, u32 width) {
             u64 w301 = w881 + 1u;
             store64(frame + 8u, w301);
             if (w301 == w61) {
-                if (std_alloc_vec_Vec_grow_amortized4(frame, 1u) == 0u)
+                if (std_alloc_vec_Vec_grow_amortized3(frame, 1u) == 0u)
                     break;
                 w61 = load64(frame + 16u);
                 p436 = load_word(frame);
@@ -33067,7 +34159,7 @@ static u32 views_forms_push_form(word line, u64 alloc, word form, u32 width) {
             u64 w302 = w301 + 1u;
             store64(frame + 8u, w302);
             if (w302 == w61) {
-                if (std_alloc_vec_Vec_grow_amortized4(frame, 1u) == 0u)
+                if (std_alloc_vec_Vec_grow_amortized3(frame, 1u) == 0u)
                     break;
                 p436 = load_word(frame);
                 w302 = load64(frame + 8u);
@@ -33244,7 +34336,7 @@ L446:;
                     u64 w899 = load64(lines + 16u);
                     u64 w949 = load64(lines + 8u);
                     if (w899 - w949 <= 7u) {
-                        if (std_alloc_vec_Vec_grow_amortized4(lines, 8u) == 0u) {
+                        if (std_alloc_vec_Vec_grow_amortized3(lines, 8u) == 0u) {
                             n217 = 1u;
                             break;
                         }
@@ -33270,7 +34362,7 @@ L446:;
                     const u64 w411 = itoa_integer_write_unsigned(w71, frame + 8u);
                     const u64 w972 = 40u - w411;
                     if (w899 - w759 < w972) {
-                        if (std_alloc_vec_Vec_grow_amortized4(lines, w972) == 0u) {
+                        if (std_alloc_vec_Vec_grow_amortized3(lines, w972) == 0u) {
                             n217 = 1u;
                             break;
                         }
@@ -33286,7 +34378,7 @@ L446:;
                     store64(lines + 8u, w599);
                     store64(lines, w318);
                     if (w899 - w599 <= 7u) {
-                        if (std_alloc_vec_Vec_grow_amortized4(lines, 8u) == 0u) {
+                        if (std_alloc_vec_Vec_grow_amortized3(lines, 8u) == 0u) {
                             n217 = 1u;
                             break;
                         }
@@ -33313,7 +34405,7 @@ L446:;
                     u64 w900 = load64(p522);
                     u64 w950 = load64(p136);
                     if (w900 == w950) {
-                        if (std_alloc_vec_Vec_grow_amortized4(lines, 1u) == 0u)
+                        if (std_alloc_vec_Vec_grow_amortized3(lines, 1u) == 0u)
                             break;
                         w900 = load64(lines + 16u);
                         w950 = load64(lines + 8u);
@@ -33358,7 +34450,7 @@ static u32 views_lines_push_step(word line, word step, word neutral, u64 neutral
     const word p200 = line + 8u;
     u64 w377 = load64(p200);
     if (w30 - w377 <= 1u) {
-        if (std_alloc_vec_Vec_grow_amortized4(line, 2u) == 0u) {
+        if (std_alloc_vec_Vec_grow_amortized3(line, 2u) == 0u) {
             return n70;
         }
         w30 = load64(line + 16u);
@@ -33372,7 +34464,7 @@ static u32 views_lines_push_step(word line, word step, word neutral, u64 neutral
     store64(line, w571);
     const u64 w989 = table64(((word)load8(step + 8u) << 3) + TABLES + 8968u);
     if (w30 - w359 <= 12u) {
-        if (std_alloc_vec_Vec_grow_amortized4(line, 13u) == 0u) {
+        if (std_alloc_vec_Vec_grow_amortized3(line, 13u) == 0u) {
             return n70;
         }
         w30 = load64(line + 16u);
@@ -33438,7 +34530,7 @@ static u32 views_lines_push_folded(word lines, u64 text, u64 text_len, u32 colum
         const word p136 = lines + 8u;
         u64 w949 = load64(p136);
         if (w899 - w949 < text_len) {
-            if (std_alloc_vec_Vec_grow_amortized4(lines, text_len) == 0u) {
+            if (std_alloc_vec_Vec_grow_amortized3(lines, text_len) == 0u) {
                 return 1u;
             }
             w899 = load64(lines + 16u);
@@ -33495,7 +34587,7 @@ static u32 views_lines_push_folded(word lines, u64 text, u64 text_len, u32 colum
                     if (n216 >= columns) {
                         if (n123 != 10u) {
                             if (w899 - w301 <= 10u) {
-                                if (std_alloc_vec_Vec_grow_amortized4(lines, 11u) == 0u) {
+                                if (std_alloc_vec_Vec_grow_amortized3(lines, 11u) == 0u) {
                                     return 1u;
                                 }
                                 w899 = load64(lines + 16u);
@@ -33518,7 +34610,7 @@ static u32 views_lines_push_folded(word lines, u64 text, u64 text_len, u32 colum
                             const word p136 = lines + 8u;
                             store64(p136, w369);
                             if (w899 == w369) {
-                                if (std_alloc_vec_Vec_grow_amortized4(lines, 1u) == 0u) {
+                                if (std_alloc_vec_Vec_grow_amortized3(lines, 1u) == 0u) {
                                     return 1u;
                                 }
                                 w369 = load64(lines + 8u);
@@ -33536,7 +34628,7 @@ static u32 views_lines_push_folded(word lines, u64 text, u64 text_len, u32 colum
                     }
                 }
                 if (w301 == w899) {
-                    if (std_alloc_vec_Vec_grow_amortized4(lines, 1u) == 0u) {
+                    if (std_alloc_vec_Vec_grow_amortized3(lines, 1u) == 0u) {
                         return 1u;
                     }
                     w899 = load64(lines + 16u);
@@ -33570,7 +34662,7 @@ static u32 views_lines_push(word line, u64 text, u64 text_len) {
     u64 w377 = load64(p200);
     u32 n216;
     if (w30 - w377 < text_len) {
-        const u32 n778 = std_alloc_vec_Vec_grow_amortized4(line, text_len);
+        const u32 n778 = std_alloc_vec_Vec_grow_amortized3(line, text_len);
         n216 = 1u;
         if (n778 == 0u) {
             return n216;
@@ -33637,7 +34729,7 @@ static u32 views_lines_push_number(word line, u64 n) {
     u64 w377 = load64(line + 8u);
     u32 n216;
     if (w30 - w377 < w227) {
-        const u32 n63 = std_alloc_vec_Vec_grow_amortized4(line, w227);
+        const u32 n63 = std_alloc_vec_Vec_grow_amortized3(line, w227);
         n216 = 1u;
         if (n63 == 0u) {
             return n216;
@@ -33674,7 +34766,7 @@ static u32 views_lines_push_column(word line, u64 n) {
     u64 w377 = load64(p200);
     u32 n216;
     if (w30 - w377 < w862) {
-        const u32 n704 = std_alloc_vec_Vec_grow_amortized4(line, w862);
+        const u32 n704 = std_alloc_vec_Vec_grow_amortized3(line, w862);
         n216 = 1u;
         if (n704 == 0u) {
             return n216;
@@ -33714,7 +34806,7 @@ static u32 views_lines_push_column(word line, u64 n) {
     store64(line + 16u, w30);
     store64(line + 8u, w378);
     if (w30 - w378 < w227) {
-        const u32 n63 = std_alloc_vec_Vec_grow_amortized4(line, w227);
+        const u32 n63 = std_alloc_vec_Vec_grow_amortized3(line, w227);
         n216 = 1u;
         if (n63 == 0u) {
             return n216;
@@ -33746,7 +34838,7 @@ static u32 views_lines_push_string(word line, word cells, u64 cells_len, u32 wid
             u64 w30 = load64(line + 16u);
             u64 w377 = load64(line + 8u);
             if (w30 - w377 <= 3u) {
-                if (std_alloc_vec_Vec_grow_amortized4(line, 4u) == 0u) {
+                if (std_alloc_vec_Vec_grow_amortized3(line, 4u) == 0u) {
                     return n371;
                 }
                 w30 = load64(line + 16u);
@@ -33788,7 +34880,7 @@ static u32 views_lines_push_cells(word line, word cells, u64 cells_len) {
             const u64 w703 = w30 - w377;
             if (load8(cells + 1u) == 0u) {
                 if (w703 <= 2u) {
-                    if (std_alloc_vec_Vec_grow_amortized4(line, 3u) == 0u) {
+                    if (std_alloc_vec_Vec_grow_amortized3(line, 3u) == 0u) {
                         n216 = 1u;
                         return n216;
                     }
@@ -33811,7 +34903,7 @@ static u32 views_lines_push_cells(word line, word cells, u64 cells_len) {
                 break;
             }
             if (w703 <= 3u) {
-                if (std_alloc_vec_Vec_grow_amortized4(line, 4u) == 0u) {
+                if (std_alloc_vec_Vec_grow_amortized3(line, 4u) == 0u) {
                     n216 = 1u;
                     return n216;
                 }
@@ -33836,7 +34928,7 @@ static u32 views_lines_push_cells(word line, word cells, u64 cells_len) {
             u64 w30 = load64(line + 16u);
             u64 w377 = load64(line + 8u);
             if (w30 - w377 <= 2u) {
-                if (std_alloc_vec_Vec_grow_amortized4(line, 3u) == 0u) {
+                if (std_alloc_vec_Vec_grow_amortized3(line, 3u) == 0u) {
                     n216 = 1u;
                     return n216;
                 }
@@ -33885,7 +34977,7 @@ static u32 views_lines_push_byte(word line, u32 byte) {
         u64 w30 = load64(line + 16u);
         u64 w377 = load64(line + 8u);
         if (w30 - w377 <= 1u) {
-            if (std_alloc_vec_Vec_grow_amortized4(line, 2u) == 0u) {
+            if (std_alloc_vec_Vec_grow_amortized3(line, 2u) == 0u) {
                 return 1u;
             }
             w30 = load64(line + 16u);
@@ -33912,7 +35004,7 @@ static u32 views_lines_push_byte(word line, u32 byte) {
         u64 w30 = load64(line + 16u);
         u64 w377 = load64(line + 8u);
         if (w30 - w377 <= 1u) {
-            if (std_alloc_vec_Vec_grow_amortized4(line, 2u) == 0u) {
+            if (std_alloc_vec_Vec_grow_amortized3(line, 2u) == 0u) {
                 return 1u;
             }
             w30 = load64(line + 16u);
@@ -33939,7 +35031,7 @@ static u32 views_lines_push_byte(word line, u32 byte) {
         u64 w30 = load64(line + 16u);
         u64 w377 = load64(line + 8u);
         if (w30 - w377 <= 1u) {
-            if (std_alloc_vec_Vec_grow_amortized4(line, 2u) == 0u) {
+            if (std_alloc_vec_Vec_grow_amortized3(line, 2u) == 0u) {
                 return 1u;
             }
             w30 = load64(line + 16u);
@@ -33969,7 +35061,7 @@ static u32 views_lines_push_byte(word line, u32 byte) {
             const word p200 = line + 8u;
             u64 w377 = load64(p200);
             if (w30 - w377 <= 1u) {
-                if (std_alloc_vec_Vec_grow_amortized4(line, 2u) == 0u) {
+                if (std_alloc_vec_Vec_grow_amortized3(line, 2u) == 0u) {
                     return 1u;
                 }
                 w30 = load64(line + 16u);
@@ -33994,7 +35086,7 @@ static u32 views_lines_push_byte(word line, u32 byte) {
         const word p200 = line + 8u;
         u64 w377 = load64(p200);
         if (w30 - w377 <= 3u) {
-            if (std_alloc_vec_Vec_grow_amortized4(line, 4u) == 0u) {
+            if (std_alloc_vec_Vec_grow_amortized3(line, 4u) == 0u) {
                 return 1u;
             }
             w30 = load64(line + 16u);
@@ -34012,7 +35104,7 @@ static u32 views_lines_push_byte(word line, u32 byte) {
     const word p200 = line + 8u;
     u64 w377 = load64(p200);
     if (w30 == w377) {
-        if (std_alloc_vec_Vec_grow_amortized4(line, 1u) == 0u) {
+        if (std_alloc_vec_Vec_grow_amortized3(line, 1u) == 0u) {
             return 1u;
         }
         w30 = load64(line + 16u);
@@ -34029,7 +35121,7 @@ static u32 views_lines_push_byte(word line, u32 byte) {
 
 /* ---- The crate trac_tracer ---- */
 
-#if UNITS & 0x40
+#if UNITS & 0x20
 
 /* What is odd about a call with these arguments and this value: */
 static void tracer_oddities_oddity_of(word a1, word a2, word a3, u64 a4, word a5, u64 a6, u32 a7, u32 a8) {
@@ -34392,9 +35484,12 @@ static void tracer_oddities_oddity_of(word a1, word a2, word a3, u64 a4, word a5
     store8(a1 + 1u, n91);
     store8(a1, n216);
 }
+#endif
+
+#if UNITS & 0x40
 
 /* trac_tracer::shown::Shown::look_at_call::<#f933f01a1e4bfb09>. */
-static u32 tracer_shown_Shown_look_at_call(word self, word machine, word call) {
+INTERNAL u32 tracer_shown_Shown_look_at_call(word self, word machine, word call) {
     u64 room[6];
     const word frame = (word)room;
     u32 n216 = 0u;
@@ -34596,6 +35691,9 @@ static u32 tracer_shown_Shown_look_at_call(word self, word machine, word call) {
     n375 = views_deleted_push_deleted(p485, w243, n79, (word)w552, w445, machine, load32(self + 32u)) & 255u;
     return n375;
 }
+#endif
+
+#if UNITS & 0x20
 
 /* Adds the lines of what a step did. */
 static u32 tracer_shown_Shown_add_lines(word self, word before, word machine, u32 fate, u32 need, u64 printed, u64
@@ -35119,7 +36217,7 @@ static u32 tracer_shown_Shown_add_forms(word self, word machine) {
                 const u64 w9 = (u64)p812 + 3u;
                 store64(frame + 24u, (w9 << 3) + w471);
                 if (w626 - w190 <= 4u) {
-                    if (std_alloc_vec_Vec_grow_amortized4(p891, 5u) == 0u) {
+                    if (std_alloc_vec_Vec_grow_amortized3(p891, 5u) == 0u) {
                         n216 = 1u;
                         return n216;
                     }
@@ -35148,7 +36246,7 @@ static u32 tracer_shown_Shown_add_forms(word self, word machine) {
                 w626 = load64(p669);
                 u64 w191 = load64(p401);
                 if (w626 == w191) {
-                    if (std_alloc_vec_Vec_grow_amortized4(p891, 1u) == 0u) {
+                    if (std_alloc_vec_Vec_grow_amortized3(p891, 1u) == 0u) {
                         n216 = 1u;
                         return n216;
                     }
@@ -35168,7 +36266,7 @@ static u32 tracer_shown_Shown_add_forms(word self, word machine) {
         }
         const u32 n354 = load8(machine + 56u);
         if (w626 - w190 <= 15u) {
-            if (std_alloc_vec_Vec_grow_amortized4(p891, 16u) == 0u) {
+            if (std_alloc_vec_Vec_grow_amortized3(p891, 16u) == 0u) {
                 n216 = 1u;
                 return n216;
             }
@@ -35195,7 +36293,7 @@ static u32 tracer_shown_Shown_add_forms(word self, word machine) {
         case 0:
         {
             if (w626 - w153 <= 1u) {
-                if (std_alloc_vec_Vec_grow_amortized4(p891, 2u) == 0u) {
+                if (std_alloc_vec_Vec_grow_amortized3(p891, 2u) == 0u) {
                     n216 = 1u;
                     return n216;
                 }
@@ -35218,7 +36316,7 @@ static u32 tracer_shown_Shown_add_forms(word self, word machine) {
         case 1:
         {
             if (w626 - w153 <= 1u) {
-                if (std_alloc_vec_Vec_grow_amortized4(p891, 2u) == 0u) {
+                if (std_alloc_vec_Vec_grow_amortized3(p891, 2u) == 0u) {
                     n216 = 1u;
                     return n216;
                 }
@@ -35241,7 +36339,7 @@ static u32 tracer_shown_Shown_add_forms(word self, word machine) {
         case 4:
         {
             if (w626 - w153 <= 1u) {
-                if (std_alloc_vec_Vec_grow_amortized4(p891, 2u) == 0u) {
+                if (std_alloc_vec_Vec_grow_amortized3(p891, 2u) == 0u) {
                     n216 = 1u;
                     return n216;
                 }
@@ -35265,7 +36363,7 @@ static u32 tracer_shown_Shown_add_forms(word self, word machine) {
         {
             if (n354 == 92u) {
                 if (w626 - w153 <= 1u) {
-                    if (std_alloc_vec_Vec_grow_amortized4(p891, 2u) == 0u) {
+                    if (std_alloc_vec_Vec_grow_amortized3(p891, 2u) == 0u) {
                         n216 = 1u;
                         return n216;
                     }
@@ -35289,7 +36387,7 @@ static u32 tracer_shown_Shown_add_forms(word self, word machine) {
                 const u32 n116 = load8((p343 & 15u) + TABLES + 5071u);
                 const u32 n19 = load8((p343 >> 4) + TABLES + 5071u);
                 if (w626 - w153 <= 3u) {
-                    if (std_alloc_vec_Vec_grow_amortized4(p891, 4u) == 0u) {
+                    if (std_alloc_vec_Vec_grow_amortized3(p891, 4u) == 0u) {
                         n216 = 1u;
                         return n216;
                     }
@@ -35304,7 +36402,7 @@ static u32 tracer_shown_Shown_add_forms(word self, word machine) {
                 store64(self + 48u, w962);
             } else {
                 if (w153 == w626) {
-                    if (std_alloc_vec_Vec_grow_amortized4(p891, 1u) == 0u) {
+                    if (std_alloc_vec_Vec_grow_amortized3(p891, 1u) == 0u) {
                         n216 = 1u;
                         return n216;
                     }
@@ -35323,7 +36421,7 @@ static u32 tracer_shown_Shown_add_forms(word self, word machine) {
         }
     }
     if (w189 == w626) {
-        if (std_alloc_vec_Vec_grow_amortized4(p891, 1u) == 0u) {
+        if (std_alloc_vec_Vec_grow_amortized3(p891, 1u) == 0u) {
             n216 = 1u;
             return n216;
         }
@@ -35462,151 +36560,7 @@ INTERNAL void checker_run_watched(word result, u64 alloc, u64 block, u64 block_l
     store64(frame + 1296u, 0u);
     store64(frame + 1288u, 0u);
     checker_run_of_script(frame + 816u, alloc, input, input_len);
-    if (load8(frame + 816u)) {
-        const word p968 = load_word(frame + 1048u);
-        const u64 w333 = load64(frame + 1040u);
-        const u64 w36 = load64(frame + 1024u);
-        u64 w579 = load64(frame + 1032u);
-        if (w579 != 0u) {
-            word p116 = (word)w36 + 72u;
-            do {
-                const u64 w491 = load64(p116 - 8u);
-                if (w491 != 0u) {
-                    const word p36 = load_word(p116);
-                    if (load64(p36 + 32u) == 1u) {
-                        const word p374 = load_word(p36 + 24u);
-                        const u64 w394 = load64(p374 + 32u);
-                        if (load64(p374) + w394 == load64(p116 - 24u)) {
-                            store64(p374 + 32u, w394 + w491);
-                        }
-                    }
-                    const word p495 = p36 + 40u;
-                    store64(p495, load64(p495) - 1u);
-                }
-                p116 = p116 + 80u;
-                w579 = w579 - 1u;
-            } while (w579 != 0u);
-        }
-        if (w333 != 0u) {
-            if (load64(p968 + 32u) == 1u) {
-                const word p744 = load_word(p968 + 24u);
-                const u64 w344 = load64(p744 + 32u);
-                if (load64(p744) + w344 == w36) {
-                    store64(p744 + 32u, w333 * 80u + w344);
-                }
-            }
-            const word p719 = p968 + 40u;
-            store64(p719, load64(p719) - 1u);
-        }
-        const u64 w566 = load64(frame + 1080u);
-        if (w566 != 0u) {
-            const word p839 = load_word(frame + 1088u);
-            if (load64(p839 + 32u) == 1u) {
-                const word p517 = load_word(p839 + 24u);
-                const u64 w679 = load64(p517 + 32u);
-                if (load64(p517) + w679 == load64(frame + 1064u)) {
-                    store64(p517 + 32u, w566 * 40u + w679);
-                }
-            }
-            const word p209 = p839 + 40u;
-            store64(p209, load64(p209) - 1u);
-        }
-        const u64 w704 = load64(frame + 1112u);
-        if (w704 != 0u) {
-            const word p602 = load_word(frame + 1120u);
-            if (load64(p602 + 32u) == 1u) {
-                const word p656 = load_word(p602 + 24u);
-                const u64 w818 = load64(p656 + 32u);
-                if (load64(p656) + w818 == load64(frame + 1096u)) {
-                    store64(p656 + 32u, (w704 << 5) + w818);
-                }
-            }
-            const word p414 = p602 + 40u;
-            store64(p414, load64(p414) - 1u);
-        }
-        const u64 w689 = load64(frame + 1144u);
-        if (w689 != 0u) {
-            const word p819 = load_word(frame + 1152u);
-            if (load64(p819 + 32u) == 1u) {
-                const word p146 = load_word(p819 + 24u);
-                const u64 w149 = load64(p146 + 32u);
-                if (load64(p146) + w149 == load64(frame + 1128u)) {
-                    store64(p146 + 32u, (w689 << 5) + w149);
-                }
-            }
-            const word p140 = p819 + 40u;
-            store64(p140, load64(p140) - 1u);
-        }
-        const u64 w495 = load64(frame + 1176u);
-        if (w495 != 0u) {
-            const word p463 = load_word(frame + 1184u);
-            if (load64(p463 + 32u) == 1u) {
-                const word p613 = load_word(p463 + 24u);
-                const u64 w385 = load64(p613 + 32u);
-                if (load64(p613) + w385 == load64(frame + 1160u)) {
-                    store64(p613 + 32u, (w495 << 5) + w385);
-                }
-            }
-            const word p969 = p463 + 40u;
-            store64(p969, load64(p969) - 1u);
-        }
-        const word p921 = load_word(frame + 1216u);
-        const u64 w938 = load64(frame + 1208u);
-        const u64 w327 = load64(frame + 1192u);
-        u64 w312 = load64(frame + 1200u);
-        if (w312 != 0u) {
-            word p327 = (word)w327;
-            do {
-                const u64 w24 = load64(p327 + 16u);
-                if (w24 != 0u) {
-                    const word p775 = load_word(p327 + 24u);
-                    if (load64(p775 + 32u) == 1u) {
-                        const word p163 = load_word(p775 + 24u);
-                        const u64 w163 = load64(p163 + 32u);
-                        if (load64(p163) + w163 == load64(p327)) {
-                            store64(p163 + 32u, w24 + w163);
-                        }
-                    }
-                    const word p801 = p775 + 40u;
-                    store64(p801, load64(p801) - 1u);
-                }
-                p327 = p327 + 32u;
-                w312 = w312 - 1u;
-            } while (w312 != 0u);
-        }
-        if (w938 != 0u) {
-            if (load64(p921 + 32u) == 1u) {
-                const word p206 = load_word(p921 + 24u);
-                const u64 w25 = load64(p206 + 32u);
-                if (load64(p206) + w25 == w327) {
-                    store64(p206 + 32u, (w938 << 5) + w25);
-                }
-            }
-            const word p364 = p921 + 40u;
-            store64(p364, load64(p364) - 1u);
-        }
-        const u64 w532 = load64(frame + 1232u);
-        const u32 n481 = load8(frame + 1224u);
-        store64(frame + 1496u, load64(frame + 1248u));
-        if (n481 == 1u) {
-            std_collections_btree_node_Node_destroy3(w532, frame + 1496u);
-        }
-        const u64 w31 = load64(frame + 1272u);
-        if (w31 != 0u) {
-            const word p132 = load_word(frame + 1280u);
-            if (load64(p132 + 32u) == 1u) {
-                const word p388 = load_word(p132 + 24u);
-                const u64 w912 = load64(p388 + 32u);
-                if (load64(p388) + w912 == load64(frame + 1256u)) {
-                    store64(p388 + 32u, (w31 << 3) + w912);
-                }
-            }
-            const word p669 = p132 + 40u;
-            store64(p669, load64(p669) - 1u);
-        }
-        store8(result, 1u);
-        fill(result + 8u, 0u, 408u);
-    } else {
+    if (load8(frame + 816u) == 0u) {
         store64(frame + 1008u, load64(frame + 880u));
         store64(frame + 1000u, load64(frame + 872u));
         store64(frame + 992u, load64(frame + 864u));
@@ -35622,700 +36576,6 @@ INTERNAL void checker_run_watched(word result, u64 alloc, u64 block, u64 block_l
         word p217 = 0;
         u32 n91 = 0;
         for (;;) {
-            const u32 n457 = load32(frame + 1364u);
-            const word p322 = n457 - load32(frame + 1360u);
-            const word p987 = p322 << 3;
-            const u64 w144 = (u64)n457 - p322;
-            u64 w28 = w144;
-            const u64 w892 = load64(frame + 1104u);
-            if (w892 != 0u) {
-                const u64 w660 = w144 - load64(((word)w892 << 5) + load_word(frame + 1096u) - 16u);
-                const u64 w154 = w144 < w660 ? 0u : w660;
-                w28 = w154 - (u32)(w154 != 0u);
-            }
-            const u64 w429 = steps - load64(frame + 1408u);
-            const word p806 = load_word(frame + 1336u) + p987;
-            u64 w68 = 0u;
-            u64 w69 = 0u;
-            u64 w70 = 0u;
-            {
-                {
-                    for (;;) {
-                        {
-                            const u64 w353 = w68;
-                            if (w353 < w429) {
-                                if (w28 > w69) {
-                                    const u64 w354 = w353;
-                                    u64 w301;
-                                    {
-                                        u64 w71;
-                                        u32 n191;
-                                        word p135;
-                                        u64 w72;
-                                        {
-                                            do {
-                                                u64 w52;
-                                                {
-                                                    word p292;
-                                                    {
-                                                        {
-                                                            word p146 = ((word)w69 << 3) + p806;
-                                                            if (load8(p146) == 0u) {
-                                                                const u32 n441 = load8(p146 + 1u);
-                                                                switch (n441 - 35u) {
-                                                                case 9:
-                                                                goto L440;
-                                                                case 0:
-                                                                {
-                                                                const u64 w302 = w69 + 1u;
-                                                                if (w302 >= w144) {
-                                                                w68 = w353;
-                                                                goto L962;
-                                                                }
-                                                                const word p39 = ((word)w302 << 3) + p806;
-                                                                if (load8(p39)) {
-                                                                w68 = w353;
-                                                                goto L962;
-                                                                }
-                                                                p292 = 2u;
-                                                                w68 = w353;
-                                                                switch (load8(p39 + 1u) - 35u) {
-                                                                case 0:
-                                                                break;
-                                                                case 5:
-                                                                goto L780;
-                                                                default:
-                                                                goto L962;
-                                                                }
-                                                                const u64 w359 = w69 + 2u;
-                                                                if (w359 >= w144) {
-                                                                w68 = w353;
-                                                                goto L962;
-                                                                }
-                                                                const word p739 = ((word)w359 << 3) + p806;
-                                                                if (load8(p739)) {
-                                                                w68 = w353;
-                                                                goto L962;
-                                                                }
-                                                                if (load8(p739 + 1u) == 40u) {
-                                                                p292 = 3u;
-                                                                goto L780;
-                                                                }
-                                                                w68 = w353;
-                                                                goto L962;
-                                                                }
-                                                                }
-                                                                if ((n441 & 254u) == 40u) {
-                                                                w68 = w353;
-                                                                goto L962;
-                                                                }
-                                                            }
-                                                            u64 w73 = 0u;
-                                                            {
-                                                                const u64 w703 = w28 - w69;
-                                                                if (w703 != 0u) {
-                                                                for (;;) {
-                                                                if (load8(p146) == 0u) {
-                                                                const word p567 = load8(p146 + 1u);
-                                                                if (p567 <= 44u) {
-                                                                if ((((u64)1u << (p567 & 63u)) & 20925080666112ull)
-                                                                    != 0u)
-                                                                break;
-                                                                }
-                                                                }
-                                                                p146 = p146 + 8u;
-                                                                w73 = w73 + 1u;
-                                                                if (w73 == w703) {
-                                                                w73 = w703;
-                                                                break;
-                                                                }
-                                                                }
-                                                                }
-                                                            }
-                                                            const u64 w751 = w429 - w353;
-                                                            const u64 w713 = w73 < w751 ? w73 : w751;
-                                                            w70 = w70 + w713;
-                                                            w69 = w69 + w713;
-                                                            w301 = w353 + w713;
-                                                            goto L753;
-                                                        }
-                                                    L440:;
-                                                        w52 = load64(frame + 1072u);
-                                                        if (w70 == 0u)
-                                                            goto L963;
-                                                        w71 = 0u;
-                                                        n191 = 0u;
-                                                        if (w52 == 0u)
-                                                            break;
-                                                        word p802 = load_word(frame + 1064u);
-                                                        const word p957 = (word)w52 * 40u;
-                                                        const word p461 = p802 + p957;
-                                                        const word p536 = p461 - 8u;
-                                                        const u64 w540 = load64(p536);
-                                                        if (w540 > w70) {
-                                                            const word p9 = p461 - 16u;
-                                                            u64 w247 = load64(p9);
-                                                            const word p992 = p461 - 40u;
-                                                            u64 w393 = load64(p992);
-                                                            const word p729 = p461 - 32u;
-                                                            const word p302 = load8(p729);
-                                                            if (p302 == 0u) {
-                                                                const u64 w596 = w70 + w393;
-                                                                w393 = w70 > w596 ? 18446744073709551615ull : w596;
-                                                            } else {
-                                                                const u64 w596 = w247 + w70;
-                                                                w247 = w70 > w596 ? 18446744073709551615ull : w596;
-                                                            }
-                                                            store64(p729, p302);
-                                                            store64(p992, w393);
-                                                            store64(p9, w247);
-                                                            const u64 w701 = w540 - w70;
-                                                            store64(p536, w540 < w701 ? 0u : w701);
-                                                            w52 = load64(frame + 1072u);
-                                                            goto L963;
-                                                        }
-                                                        word p114 = p957 - 40u;
-                                                        while (w52 != 0u) {
-                                                            const u64 w641 = w52 - 1u;
-                                                            store64(frame + 1072u, w641);
-                                                            const word p596 = p114 + p802;
-                                                            const u64 w704 = load64(p596 + 32u);
-                                                            if (w704 > w70) {
-                                                                u64 w393 = load64(p596);
-                                                                u64 w149 = load64(p596 + 24u);
-                                                                const word p561 = p596 + 16u;
-                                                                const word p188 = load8(p596 + 8u);
-                                                                if (p188 == 0u) {
-                                                                const u64 w596 = w70 + w393;
-                                                                w393 = w70 > w596 ? 18446744073709551615ull : w596;
-                                                                } else {
-                                                                const u64 w596 = w149 + w70;
-                                                                w149 = w70 > w596 ? 18446744073709551615ull : w596;
-                                                                }
-                                                                const u64 w202 = load64(p561);
-                                                                word p353;
-                                                                if (load64(frame + 1080u) + 1u == w52) {
-                                                                if (std_alloc_vec_Vec_grow_amortized(frame + 1064u)
-                                                                    == 0u)
-                                                                goto L357;
-                                                                const u64 w801 = load64(frame + 1072u);
-                                                                w52 = w801 + 1u;
-                                                                p802 = load_word(frame + 1064u);
-                                                                p353 = (word)w801 * 40u;
-                                                                } else {
-                                                                p353 = p114;
-                                                                }
-                                                                const word p597 = p353 + p802;
-                                                                const u64 w721 = w704 - w70;
-                                                                store64(p597 + 32u, w704 < w721 ? 0u : w721);
-                                                                store64(p597 + 24u, w149);
-                                                                store64(p597 + 16u, w202);
-                                                                store64(p597 + 8u, p188);
-                                                                store64(p597, w393);
-                                                                store64(frame + 1072u, w52);
-                                                                goto L963;
-                                                            }
-                                                            p114 = p114 - 40u;
-                                                            w70 = w70 - w704;
-                                                            w52 = w641;
-                                                            if (w52 == 0u)
-                                                                break;
-                                                        }
-                                                        break;
-                                                    }
-                                                L780:;
-                                                    if (w28 - w69 < p292) {
-                                                        w68 = w353;
-                                                        goto L962;
-                                                    }
-                                                    u64 w53 = load64(frame + 1072u);
-                                                    word p68;
-                                                    word p136;
-                                                    u64 w73;
-                                                    u64 w74;
-                                                    do {
-                                                        do {
-                                                            {
-                                                                if (w70 != 0u) {
-                                                                p68 = 0u;
-                                                                if (w53 == 0u)
-                                                                break;
-                                                                word p802 = load_word(frame + 1064u);
-                                                                const word p957 = (word)w53 * 40u;
-                                                                const word p461 = p802 + p957;
-                                                                const word p536 = p461 - 8u;
-                                                                const u64 w540 = load64(p536);
-                                                                if (w540 <= w70) {
-                                                                word p114 = p957 - 40u;
-                                                                while (w53 != 0u) {
-                                                                const u64 w641 = w53 - 1u;
-                                                                store64(frame + 1072u, w641);
-                                                                const word p596 = p114 + p802;
-                                                                const u64 w704 = load64(p596 + 32u);
-                                                                if (w704 > w70) {
-                                                                u64 w393 = load64(p596);
-                                                                u64 w149 = load64(p596 + 24u);
-                                                                const word p561 = p596 + 16u;
-                                                                const word p188 = load8(p596 + 8u);
-                                                                if (p188 == 0u) {
-                                                                const u64 w596 = w70 + w393;
-                                                                w393 = w70 > w596 ? 18446744073709551615ull : w596;
-                                                                } else {
-                                                                const u64 w596 = w149 + w70;
-                                                                w149 = w70 > w596 ? 18446744073709551615ull : w596;
-                                                                }
-                                                                const u64 w202 = load64(p561);
-                                                                word p353;
-                                                                if (load64(frame + 1080u) + 1u == w53) {
-                                                                if (std_alloc_vec_Vec_grow_amortized(frame + 1064u)
-                                                                    == 0u)
-                                                                goto L357;
-                                                                const u64 w801 = load64(frame + 1072u);
-                                                                w53 = w801 + 1u;
-                                                                p802 = load_word(frame + 1064u);
-                                                                p353 = (word)w801 * 40u;
-                                                                } else {
-                                                                p353 = p114;
-                                                                }
-                                                                const word p597 = p353 + p802;
-                                                                const u64 w721 = w704 - w70;
-                                                                store64(p597 + 32u, w704 < w721 ? 0u : w721);
-                                                                store64(p597 + 24u, w149);
-                                                                store64(p597 + 16u, w202);
-                                                                store64(p597 + 8u, p188);
-                                                                store64(p597, w393);
-                                                                store64(frame + 1072u, w53);
-                                                                goto L964;
-                                                                }
-                                                                p114 = p114 - 40u;
-                                                                w70 = w70 - w704;
-                                                                w53 = w641;
-                                                                if (w53 == 0u)
-                                                                break;
-                                                                }
-                                                                break;
-                                                                }
-                                                                const word p9 = p461 - 16u;
-                                                                u64 w247 = load64(p9);
-                                                                const word p992 = p461 - 40u;
-                                                                u64 w393 = load64(p992);
-                                                                const word p729 = p461 - 32u;
-                                                                const word p302 = load8(p729);
-                                                                if (p302 == 0u) {
-                                                                const u64 w596 = w70 + w393;
-                                                                w393 = w70 > w596 ? 18446744073709551615ull : w596;
-                                                                } else {
-                                                                const u64 w596 = w247 + w70;
-                                                                w247 = w70 > w596 ? 18446744073709551615ull : w596;
-                                                                }
-                                                                store64(p729, p302);
-                                                                store64(p992, w393);
-                                                                store64(p9, w247);
-                                                                const u64 w701 = w540 - w70;
-                                                                store64(p536, w540 < w701 ? 0u : w701);
-                                                                w53 = load64(frame + 1072u);
-                                                                }
-                                                            }
-                                                        L964:;
-                                                            if (w53 == 0u) {
-                                                                p68 = 0u;
-                                                            } else {
-                                                                const word p985 = (word)w53 * 40u + load_word(frame
-                                                                    + 1064u);
-                                                                p136 = p985 - 40u;
-                                                                p68 = load8(p985 - 32u);
-                                                                w73 = load64(p985 - 16u);
-                                                                w74 = load64(p985 - 24u);
-                                                                goto L754;
-                                                            }
-                                                        } while (0);
-                                                        p136 = frame + 1056u;
-                                                        w73 = 0u;
-                                                        w74 = 0u;
-                                                    } while (0);
-                                                L754:;
-                                                    const u64 w355 = w74;
-                                                    const u64 w36 = load64(p136);
-                                                    u64 w902 = load64(frame + 1136u);
-                                                    if (load64(frame + 1144u) == w902) {
-                                                        if (std_alloc_vec_Vec_grow_amortized2(frame + 1128u) == 0u)
-                                                            goto L357;
-                                                        w902 = load64(frame + 1136u);
-                                                    }
-                                                    const word p252 = ((word)w902 << 5) + load_word(frame + 1128u);
-                                                    store64(p252, w36);
-                                                    store64(p252 + 24u, w73);
-                                                    store64(p252 + 16u, w355);
-                                                    store64(p252 + 8u, p68);
-                                                    store64(frame + 1136u, w902 + 1u);
-                                                    w69 = w69 + p292;
-                                                    w70 = p292;
-                                                    w301 = w353 + 1u;
-                                                    goto L753;
-                                                }
-                                            L963:;
-                                                if (w52 == 0u) {
-                                                    w71 = 0u;
-                                                    n191 = 0u;
-                                                } else {
-                                                    const word p985 = (word)w52 * 40u + load_word(frame + 1064u);
-                                                    p135 = p985 - 40u;
-                                                    w71 = load64(p985 - 24u);
-                                                    n191 = load8(p985 - 32u);
-                                                    w72 = load64(p985 - 16u);
-                                                    goto L755;
-                                                }
-                                            } while (0);
-                                            p135 = frame + 1056u;
-                                            w72 = 0u;
-                                        }
-                                    L755:;
-                                        u64 w96 = w72;
-                                        const u32 n37 = w69 >= w144;
-                                        w69 = w69 + 1u;
-                                        u64 w36 = load64(p135);
-                                        do {
-                                            if (n37 == 0u) {
-                                                if (w69 != w144) {
-                                                    const word p167 = n37 ? TABLES + 5032u : ((word)w69 << 3) + p806;
-                                                    if (load8(no_address(p167, 1u)) == 0u) {
-                                                        if (load8(no_address(p167 + 1u, 1u)) == 40u) {
-                                                            if ((n191 & 255u) == 0u) {
-                                                                const u64 w359 = w36 + 2u;
-                                                                w36 = w36 > w359 ? 18446744073709551615ull : w359;
-                                                                n191 = 0u;
-                                                                break;
-                                                            }
-                                                            const u64 w359 = w96 + 2u;
-                                                            w96 = w96 > w359 ? 18446744073709551615ull : w359;
-                                                            break;
-                                                        }
-                                                    }
-                                                }
-                                            }
-                                            if ((n191 & 255u) == 0u) {
-                                                const u64 w302 = w36 + 1u;
-                                                w36 = w302 == 0u ? 18446744073709551615ull : w302;
-                                                n191 = 0u;
-                                            } else {
-                                                const u64 w302 = w96 + 1u;
-                                                w96 = w302 == 0u ? 18446744073709551615ull : w302;
-                                            }
-                                        } while (0);
-                                        u64 w355 = load64(frame + 1168u);
-                                        if (load64(frame + 1176u) == w355) {
-                                            if (std_alloc_vec_Vec_grow_amortized2(frame + 1160u) == 0u)
-                                                break;
-                                            w355 = load64(frame + 1168u);
-                                        }
-                                        const word p229 = ((word)w355 << 5) + load_word(frame + 1160u);
-                                        store64(p229, w36);
-                                        store64(p229 + 24u, w96);
-                                        store64(p229 + 16u, w71);
-                                        store64(p229 + 8u, (word)n191 & 255u);
-                                        w70 = 1u;
-                                        store64(frame + 1168u, w355 + 1u);
-                                        w301 = w353 + 1u;
-                                    }
-                                L753:;
-                                    w68 = w301;
-                                    if (w354 < w68)
-                                        continue;
-                                }
-                            }
-                        }
-                    L962:;
-                        if (w68 == 0u)
-                            goto L58;
-                        if (w70 == 0u)
-                            goto L58;
-                        u64 w52 = load64(frame + 1072u);
-                        if (w52 == 0u)
-                            goto L58;
-                        word p802 = load_word(frame + 1064u);
-                        const word p957 = (word)w52 * 40u;
-                        const word p461 = p802 + p957;
-                        const word p536 = p461 - 8u;
-                        const u64 w540 = load64(p536);
-                        if (w540 > w70) {
-                            const word p9 = p461 - 16u;
-                            u64 w247 = load64(p9);
-                            const word p992 = p461 - 40u;
-                            u64 w393 = load64(p992);
-                            const word p729 = p461 - 32u;
-                            const word p302 = load8(p729);
-                            if (p302 == 0u) {
-                                const u64 w596 = w70 + w393;
-                                w393 = w70 > w596 ? 18446744073709551615ull : w596;
-                            } else {
-                                const u64 w596 = w247 + w70;
-                                w247 = w70 > w596 ? 18446744073709551615ull : w596;
-                            }
-                            store64(p729, p302);
-                            store64(p992, w393);
-                            store64(p9, w247);
-                            const u64 w701 = w540 - w70;
-                            store64(p536, w540 < w701 ? 0u : w701);
-                            goto L58;
-                        }
-                        word p114 = p957 - 40u;
-                        while (w52 != 0u) {
-                            const u64 w641 = w52 - 1u;
-                            store64(frame + 1072u, w641);
-                            const word p596 = p114 + p802;
-                            const u64 w704 = load64(p596 + 32u);
-                            if (w704 > w70) {
-                                u64 w393 = load64(p596);
-                                u64 w149 = load64(p596 + 24u);
-                                const word p561 = p596 + 16u;
-                                const word p188 = load8(p596 + 8u);
-                                if (p188 == 0u) {
-                                    const u64 w596 = w70 + w393;
-                                    w393 = w70 > w596 ? 18446744073709551615ull : w596;
-                                } else {
-                                    const u64 w596 = w70 + w149;
-                                    w149 = w70 > w596 ? 18446744073709551615ull : w596;
-                                }
-                                const u64 w202 = load64(p561);
-                                word p353;
-                                if (load64(frame + 1080u) + 1u == w52) {
-                                    if (std_alloc_vec_Vec_grow_amortized(frame + 1064u) == 0u)
-                                        goto L357;
-                                    const u64 w801 = load64(frame + 1072u);
-                                    w52 = w801 + 1u;
-                                    p802 = load_word(frame + 1064u);
-                                    p353 = (word)w801 * 40u;
-                                } else {
-                                    p353 = p114;
-                                }
-                                const word p597 = p353 + p802;
-                                const u64 w721 = w704 - w70;
-                                store64(p597 + 32u, w704 < w721 ? 0u : w721);
-                                store64(p597 + 24u, w149);
-                                store64(p597 + 16u, w202);
-                                store64(p597 + 8u, p188);
-                                store64(p597, w393);
-                                store64(frame + 1072u, w52);
-                                break;
-                            }
-                            p114 = p114 - 40u;
-                            w70 = w70 - w704;
-                            w52 = w641;
-                            if (w52 == 0u)
-                                break;
-                        }
-                        goto L58;
-                    }
-                }
-            L357:;
-                const u64 w635 = load64(frame + 960u);
-                const u32 n40 = load8(frame + 952u);
-                store64(frame + 1496u, load64(frame + 976u));
-                if (n40 == 1u) {
-                    std_collections_btree_node_Node_destroy(w635, frame + 1496u);
-                }
-                const u64 w228 = load64(frame + 992u);
-                const u32 n989 = load8(frame + 984u);
-                store64(frame + 1496u, load64(frame + 1008u));
-                if (n989 == 1u) {
-                    std_collections_btree_node_Node_destroy2(w228, frame + 1496u);
-                }
-                const word p968 = load_word(frame + 1048u);
-                const u64 w333 = load64(frame + 1040u);
-                const u64 w36 = load64(frame + 1024u);
-                u64 w579 = load64(frame + 1032u);
-                if (w579 != 0u) {
-                    word p116 = (word)w36 + 72u;
-                    do {
-                        const u64 w491 = load64(p116 - 8u);
-                        if (w491 != 0u) {
-                            const word p36 = load_word(p116);
-                            if (load64(p36 + 32u) == 1u) {
-                                const word p374 = load_word(p36 + 24u);
-                                const u64 w394 = load64(p374 + 32u);
-                                if (load64(p374) + w394 == load64(p116 - 24u)) {
-                                    store64(p374 + 32u, w394 + w491);
-                                }
-                            }
-                            const word p495 = p36 + 40u;
-                            store64(p495, load64(p495) - 1u);
-                        }
-                        p116 = p116 + 80u;
-                        w579 = w579 - 1u;
-                    } while (w579 != 0u);
-                }
-                if (w333 != 0u) {
-                    if (load64(p968 + 32u) == 1u) {
-                        const word p744 = load_word(p968 + 24u);
-                        const u64 w344 = load64(p744 + 32u);
-                        if (load64(p744) + w344 == w36) {
-                            store64(p744 + 32u, w333 * 80u + w344);
-                        }
-                    }
-                    const word p719 = p968 + 40u;
-                    store64(p719, load64(p719) - 1u);
-                }
-                const u64 w566 = load64(frame + 1080u);
-                if (w566 != 0u) {
-                    const word p839 = load_word(frame + 1088u);
-                    if (load64(p839 + 32u) == 1u) {
-                        const word p517 = load_word(p839 + 24u);
-                        const u64 w679 = load64(p517 + 32u);
-                        if (load64(p517) + w679 == load64(frame + 1064u)) {
-                            store64(p517 + 32u, w566 * 40u + w679);
-                        }
-                    }
-                    const word p209 = p839 + 40u;
-                    store64(p209, load64(p209) - 1u);
-                }
-                const u64 w704 = load64(frame + 1112u);
-                if (w704 != 0u) {
-                    const word p602 = load_word(frame + 1120u);
-                    if (load64(p602 + 32u) == 1u) {
-                        const word p656 = load_word(p602 + 24u);
-                        const u64 w818 = load64(p656 + 32u);
-                        if (load64(p656) + w818 == load64(frame + 1096u)) {
-                            store64(p656 + 32u, (w704 << 5) + w818);
-                        }
-                    }
-                    const word p414 = p602 + 40u;
-                    store64(p414, load64(p414) - 1u);
-                }
-                const u64 w689 = load64(frame + 1144u);
-                if (w689 != 0u) {
-                    const word p819 = load_word(frame + 1152u);
-                    if (load64(p819 + 32u) == 1u) {
-                        const word p146 = load_word(p819 + 24u);
-                        const u64 w149 = load64(p146 + 32u);
-                        if (load64(p146) + w149 == load64(frame + 1128u)) {
-                            store64(p146 + 32u, (w689 << 5) + w149);
-                        }
-                    }
-                    const word p140 = p819 + 40u;
-                    store64(p140, load64(p140) - 1u);
-                }
-                const u64 w495 = load64(frame + 1176u);
-                if (w495 != 0u) {
-                    const word p463 = load_word(frame + 1184u);
-                    if (load64(p463 + 32u) == 1u) {
-                        const word p613 = load_word(p463 + 24u);
-                        const u64 w385 = load64(p613 + 32u);
-                        if (load64(p613) + w385 == load64(frame + 1160u)) {
-                            store64(p613 + 32u, (w495 << 5) + w385);
-                        }
-                    }
-                    const word p969 = p463 + 40u;
-                    store64(p969, load64(p969) - 1u);
-                }
-                const word p921 = load_word(frame + 1216u);
-                const u64 w938 = load64(frame + 1208u);
-                const u64 w327 = load64(frame + 1192u);
-                u64 w312 = load64(frame + 1200u);
-                if (w312 != 0u) {
-                    word p327 = (word)w327;
-                    do {
-                        const u64 w24 = load64(p327 + 16u);
-                        if (w24 != 0u) {
-                            const word p775 = load_word(p327 + 24u);
-                            if (load64(p775 + 32u) == 1u) {
-                                const word p163 = load_word(p775 + 24u);
-                                const u64 w163 = load64(p163 + 32u);
-                                if (load64(p163) + w163 == load64(p327)) {
-                                    store64(p163 + 32u, w24 + w163);
-                                }
-                            }
-                            const word p801 = p775 + 40u;
-                            store64(p801, load64(p801) - 1u);
-                        }
-                        p327 = p327 + 32u;
-                        w312 = w312 - 1u;
-                    } while (w312 != 0u);
-                }
-                if (w938 != 0u) {
-                    if (load64(p921 + 32u) == 1u) {
-                        const word p206 = load_word(p921 + 24u);
-                        const u64 w25 = load64(p206 + 32u);
-                        if (load64(p206) + w25 == w327) {
-                            store64(p206 + 32u, (w938 << 5) + w25);
-                        }
-                    }
-                    const word p364 = p921 + 40u;
-                    store64(p364, load64(p364) - 1u);
-                }
-                const u64 w532 = load64(frame + 1232u);
-                const u32 n481 = load8(frame + 1224u);
-                store64(frame + 1496u, load64(frame + 1248u));
-                if (n481 == 1u) {
-                    std_collections_btree_node_Node_destroy3(w532, frame + 1496u);
-                }
-                const u64 w31 = load64(frame + 1272u);
-                if (w31 != 0u) {
-                    const word p132 = load_word(frame + 1280u);
-                    if (load64(p132 + 32u) == 1u) {
-                        const word p388 = load_word(p132 + 24u);
-                        const u64 w912 = load64(p388 + 32u);
-                        if (load64(p388) + w912 == load64(frame + 1256u)) {
-                            store64(p388 + 32u, (w31 << 3) + w912);
-                        }
-                    }
-                    const word p669 = p132 + 40u;
-                    store64(p669, load64(p669) - 1u);
-                }
-                store8(result, 1u);
-                fill(result + 8u, 0u, 408u);
-                return;
-            }
-        L58:;
-            if (load8(frame + 1420u) != 1u) {
-                const u32 n405 = load8(frame + 1422u);
-                store64(frame + 1480u, 0u);
-                store64(frame + 1472u, load64(frame + 1408u));
-                store64(frame + 1464u, load64(frame + 1400u));
-                store32(frame + 1480u, load32(frame + 1416u));
-                store64(frame + 1496u, 0u);
-                store64(frame + 1504u, 0u);
-                store64(frame + 1512u, 0u);
-                store64(frame + 1520u, 0u);
-                store64(frame + 1528u, 0u);
-                const u32 n657 = load32(frame + 1396u);
-                core_machine_advancing_go_on(frame + 1496u, frame + 1336u, frame + 1392u, n657, frame + 1464u, w68,
-                    n405);
-                store64(frame + 1408u, load64(frame + 1520u));
-                store32(frame + 1416u, load32(frame + 1528u));
-                store16(frame + 1420u, load16(frame + 1532u));
-                store32(frame + 1396u, load32(frame + 1512u));
-            }
-            u64 w579 = load64(frame + 1032u);
-            if (w579 != 0u) {
-                store64(frame + 1032u, 0u);
-                const u64 w333 = load64(frame + 1040u);
-                store64(frame + 1040u, 0u);
-                const u64 w36 = load64(frame + 1024u);
-                word p116 = (word)w36 + 72u;
-                do {
-                    const u64 w491 = load64(p116 - 8u);
-                    if (w491 != 0u) {
-                        const word p36 = load_word(p116);
-                        if (load64(p36 + 32u) == 1u) {
-                            const word p374 = load_word(p36 + 24u);
-                            const u64 w394 = load64(p374 + 32u);
-                            if (load64(p374) + w394 == load64(p116 - 24u)) {
-                                store64(p374 + 32u, w394 + w491);
-                            }
-                        }
-                        const word p495 = p36 + 40u;
-                        store64(p495, load64(p495) - 1u);
-                    }
-                    p116 = p116 + 80u;
-                    w579 = w579 - 1u;
-                } while (w579 != 0u);
-                store64(frame + 1040u, w333);
-                store64(frame + 1032u, 0u);
-                store64(frame + 1024u, w36);
-            }
-            if (load64(frame + 1264u) != 0u) {
-                store64(frame + 1264u, 0u);
-            }
             u32 n537;
             u32 n216;
             u32 n217;
@@ -36326,67 +36586,257 @@ INTERNAL void checker_run_watched(word result, u64 alloc, u64 block, u64 block_l
             do {
                 do {
                     do {
-                        u32 n63;
-                        {
+                        if ((checker_run_pass_row(frame + 1336u, frame + 1016u, steps) & 255u) == 0u) {
+                            u64 w579 = load64(frame + 1032u);
+                            if (w579 != 0u) {
+                                store64(frame + 1032u, 0u);
+                                const u64 w333 = load64(frame + 1040u);
+                                store64(frame + 1040u, 0u);
+                                const u64 w36 = load64(frame + 1024u);
+                                word p116 = (word)w36 + 72u;
+                                do {
+                                    const u64 w491 = load64(p116 - 8u);
+                                    if (w491 != 0u) {
+                                        const word p36 = load_word(p116);
+                                        if (load64(p36 + 32u) == 1u) {
+                                            const word p374 = load_word(p36 + 24u);
+                                            const u64 w394 = load64(p374 + 32u);
+                                            if (load64(p374) + w394 == load64(p116 - 24u)) {
+                                                store64(p374 + 32u, w394 + w491);
+                                            }
+                                        }
+                                        const word p495 = p36 + 40u;
+                                        store64(p495, load64(p495) - 1u);
+                                    }
+                                    p116 = p116 + 80u;
+                                    w579 = w579 - 1u;
+                                } while (w579 != 0u);
+                                store64(frame + 1040u, w333);
+                                store64(frame + 1032u, 0u);
+                                store64(frame + 1024u, w36);
+                            }
+                            if (load64(frame + 1264u) != 0u) {
+                                store64(frame + 1264u, 0u);
+                            }
+                            u32 n63;
                             {
-                                n537 = core_machine_Machine_next_rule(frame + 1336u) & 255u;
-                                if (n537 == 7u) {
-                                    n216 = 0u;
-                                    store8(frame + 1498u, 0u);
-                                    store16(frame + 1496u, 0u);
-                                    core_machine_Machine_next_function(frame + 1496u, frame + 1336u);
-                                    n217 = 1u;
-                                    if (load8(frame + 1496u) != 1u)
-                                        goto L131;
-                                    const u32 n251 = load8(frame + 1497u);
-                                    if (n251 - 2u < 23u)
-                                        goto L131;
-                                    n63 = 1u;
-                                    if (n251 - 1u)
+                                {
+                                    n537 = core_machine_Machine_next_rule(frame + 1336u) & 255u;
+                                    if (n537 == 7u) {
+                                        n216 = 0u;
+                                        store8(frame + 1498u, 0u);
+                                        store16(frame + 1496u, 0u);
+                                        core_machine_Machine_next_function(frame + 1496u, frame + 1336u);
+                                        n217 = 1u;
+                                        if (load8(frame + 1496u) != 1u)
+                                            goto L131;
+                                        const u32 n251 = load8(frame + 1497u);
+                                        if (n251 - 2u < 23u)
+                                            goto L131;
+                                        n63 = 1u;
+                                        if (n251 - 1u)
+                                            goto L576;
+                                        n63 = 2u;
                                         goto L576;
-                                    n63 = 2u;
-                                    goto L576;
+                                    }
+                                    p68 = 0u;
+                                    n217 = 1u;
+                                    n216 = 0u;
+                                    if (n537 != 2u)
+                                        break;
+                                    const u32 n390 = load32(frame + 1360u);
+                                    if (n390 == 0u)
+                                        break;
+                                    const word p769 = load_word(frame + 1336u);
+                                    const u32 n457 = load32(frame + 1364u);
+                                    const u32 n833 = n457 - n390;
+                                    if (load8(((word)n833 << 3) + p769 + 1u) != 40u)
+                                        break;
+                                    const word p659 = n833 + 1u;
+                                    core_runs_matching(frame + 104u, (p659 << 3) + p769, (u64)n457 - p659);
+                                    n92 = 0u;
+                                    n216 = load8(frame + 104u) == 1u ? 0u : n390;
+                                    goto L132;
                                 }
+                            L131:;
                                 p68 = 0u;
-                                n217 = 1u;
-                                n216 = 0u;
-                                if (n537 != 2u)
-                                    break;
-                                const u32 n390 = load32(frame + 1360u);
-                                if (n390 == 0u)
-                                    break;
-                                const word p769 = load_word(frame + 1336u);
-                                const u32 n458 = load32(frame + 1364u);
-                                const u32 n833 = n458 - n390;
-                                if (load8(((word)n833 << 3) + p769 + 1u) != 40u)
-                                    break;
-                                const word p659 = n833 + 1u;
-                                core_runs_matching(frame + 104u, (p659 << 3) + p769, (u64)n458 - p659);
-                                n92 = 0u;
-                                n216 = load8(frame + 104u) == 1u ? 0u : n390;
+                                break;
+                            }
+                        L576:;
+                            n92 = n63;
+                            const u32 n899 = load32(frame + 1368u);
+                            if (n899 == 0u) {
+                                p68 = 0u;
                                 goto L132;
                             }
-                        L131:;
-                            p68 = 0u;
-                            break;
+                            p69 = 0u;
+                            const u32 n990 = n899 - 1u;
+                            if (load32(frame + 1356u) > n990) {
+                                const word p308 = ((word)(load32(frame + 1352u) + n990) << 3) + load_word(frame +
+                                    1336u);
+                                p69 = (word)(load8(p308) == 1u ? load8(p308 + 1u) : 0u) & 255u;
+                            }
+                            p68 = 1u;
+                            n217 = 0u;
+                            p70 = n990;
+                            goto L753;
                         }
-                    L576:;
-                        n92 = n63;
-                        const u32 n899 = load32(frame + 1368u);
-                        if (n899 == 0u) {
-                            p68 = 0u;
-                            goto L132;
+                        const u64 w635 = load64(frame + 960u);
+                        const u32 n40 = load8(frame + 952u);
+                        store64(frame + 1496u, load64(frame + 976u));
+                        if (n40 == 1u) {
+                            std_collections_btree_node_Node_destroy2(w635, frame + 1496u);
                         }
-                        p69 = 0u;
-                        const u32 n990 = n899 - 1u;
-                        if (load32(frame + 1356u) > n990) {
-                            const word p308 = ((word)(load32(frame + 1352u) + n990) << 3) + load_word(frame + 1336u);
-                            p69 = (word)(load8(p308) == 1u ? load8(p308 + 1u) : 0u) & 255u;
+                        const u64 w228 = load64(frame + 992u);
+                        const u32 n989 = load8(frame + 984u);
+                        store64(frame + 1496u, load64(frame + 1008u));
+                        if (n989 == 1u) {
+                            std_collections_btree_node_Node_destroy3(w228, frame + 1496u);
                         }
-                        p68 = 1u;
-                        n217 = 0u;
-                        p70 = n990;
-                        goto L756;
+                        const word p968 = load_word(frame + 1048u);
+                        const u64 w333 = load64(frame + 1040u);
+                        const u64 w36 = load64(frame + 1024u);
+                        u64 w579 = load64(frame + 1032u);
+                        if (w579 != 0u) {
+                            word p116 = (word)w36 + 72u;
+                            do {
+                                const u64 w491 = load64(p116 - 8u);
+                                if (w491 != 0u) {
+                                    const word p36 = load_word(p116);
+                                    if (load64(p36 + 32u) == 1u) {
+                                        const word p374 = load_word(p36 + 24u);
+                                        const u64 w394 = load64(p374 + 32u);
+                                        if (load64(p374) + w394 == load64(p116 - 24u)) {
+                                            store64(p374 + 32u, w394 + w491);
+                                        }
+                                    }
+                                    const word p495 = p36 + 40u;
+                                    store64(p495, load64(p495) - 1u);
+                                }
+                                p116 = p116 + 80u;
+                                w579 = w579 - 1u;
+                            } while (w579 != 0u);
+                        }
+                        if (w333 != 0u) {
+                            if (load64(p968 + 32u) == 1u) {
+                                const word p744 = load_word(p968 + 24u);
+                                const u64 w344 = load64(p744 + 32u);
+                                if (load64(p744) + w344 == w36) {
+                                    store64(p744 + 32u, w333 * 80u + w344);
+                                }
+                            }
+                            const word p719 = p968 + 40u;
+                            store64(p719, load64(p719) - 1u);
+                        }
+                        const u64 w566 = load64(frame + 1080u);
+                        if (w566 != 0u) {
+                            const word p839 = load_word(frame + 1088u);
+                            if (load64(p839 + 32u) == 1u) {
+                                const word p517 = load_word(p839 + 24u);
+                                const u64 w679 = load64(p517 + 32u);
+                                if (load64(p517) + w679 == load64(frame + 1064u)) {
+                                    store64(p517 + 32u, w566 * 40u + w679);
+                                }
+                            }
+                            const word p209 = p839 + 40u;
+                            store64(p209, load64(p209) - 1u);
+                        }
+                        const u64 w704 = load64(frame + 1112u);
+                        if (w704 != 0u) {
+                            const word p602 = load_word(frame + 1120u);
+                            if (load64(p602 + 32u) == 1u) {
+                                const word p656 = load_word(p602 + 24u);
+                                const u64 w818 = load64(p656 + 32u);
+                                if (load64(p656) + w818 == load64(frame + 1096u)) {
+                                    store64(p656 + 32u, (w704 << 5) + w818);
+                                }
+                            }
+                            const word p414 = p602 + 40u;
+                            store64(p414, load64(p414) - 1u);
+                        }
+                        const u64 w689 = load64(frame + 1144u);
+                        if (w689 != 0u) {
+                            const word p819 = load_word(frame + 1152u);
+                            if (load64(p819 + 32u) == 1u) {
+                                const word p146 = load_word(p819 + 24u);
+                                const u64 w149 = load64(p146 + 32u);
+                                if (load64(p146) + w149 == load64(frame + 1128u)) {
+                                    store64(p146 + 32u, (w689 << 5) + w149);
+                                }
+                            }
+                            const word p140 = p819 + 40u;
+                            store64(p140, load64(p140) - 1u);
+                        }
+                        const u64 w495 = load64(frame + 1176u);
+                        if (w495 != 0u) {
+                            const word p463 = load_word(frame + 1184u);
+                            if (load64(p463 + 32u) == 1u) {
+                                const word p613 = load_word(p463 + 24u);
+                                const u64 w385 = load64(p613 + 32u);
+                                if (load64(p613) + w385 == load64(frame + 1160u)) {
+                                    store64(p613 + 32u, (w495 << 5) + w385);
+                                }
+                            }
+                            const word p969 = p463 + 40u;
+                            store64(p969, load64(p969) - 1u);
+                        }
+                        const word p921 = load_word(frame + 1216u);
+                        const u64 w938 = load64(frame + 1208u);
+                        const u64 w327 = load64(frame + 1192u);
+                        u64 w312 = load64(frame + 1200u);
+                        if (w312 != 0u) {
+                            word p327 = (word)w327;
+                            do {
+                                const u64 w24 = load64(p327 + 16u);
+                                if (w24 != 0u) {
+                                    const word p775 = load_word(p327 + 24u);
+                                    if (load64(p775 + 32u) == 1u) {
+                                        const word p163 = load_word(p775 + 24u);
+                                        const u64 w163 = load64(p163 + 32u);
+                                        if (load64(p163) + w163 == load64(p327)) {
+                                            store64(p163 + 32u, w24 + w163);
+                                        }
+                                    }
+                                    const word p801 = p775 + 40u;
+                                    store64(p801, load64(p801) - 1u);
+                                }
+                                p327 = p327 + 32u;
+                                w312 = w312 - 1u;
+                            } while (w312 != 0u);
+                        }
+                        if (w938 != 0u) {
+                            if (load64(p921 + 32u) == 1u) {
+                                const word p206 = load_word(p921 + 24u);
+                                const u64 w25 = load64(p206 + 32u);
+                                if (load64(p206) + w25 == w327) {
+                                    store64(p206 + 32u, (w938 << 5) + w25);
+                                }
+                            }
+                            const word p364 = p921 + 40u;
+                            store64(p364, load64(p364) - 1u);
+                        }
+                        const u64 w532 = load64(frame + 1232u);
+                        const u32 n481 = load8(frame + 1224u);
+                        store64(frame + 1496u, load64(frame + 1248u));
+                        if (n481 == 1u) {
+                            std_collections_btree_node_Node_destroy(w532, frame + 1496u);
+                        }
+                        const u64 w31 = load64(frame + 1272u);
+                        if (w31 != 0u) {
+                            const word p132 = load_word(frame + 1280u);
+                            if (load64(p132 + 32u) == 1u) {
+                                const word p388 = load_word(p132 + 24u);
+                                const u64 w912 = load64(p388 + 32u);
+                                if (load64(p388) + w912 == load64(frame + 1256u)) {
+                                    store64(p388 + 32u, (w31 << 3) + w912);
+                                }
+                            }
+                            const word p669 = p132 + 40u;
+                            store64(p669, load64(p669) - 1u);
+                        }
+                        store8(result, 1u);
+                        fill(result + 8u, 0u, 408u);
+                        return;
                     } while (0);
                     n92 = 0u;
                 } while (0);
@@ -36394,13 +36844,13 @@ INTERNAL void checker_run_watched(word result, u64 alloc, u64 block, u64 block_l
                 p69 = 0u;
                 p70 = 0u;
             } while (0);
-        L756:;
+        L753:;
             const word p353 = p70;
             const u32 n953 = load32(frame + 1352u);
             const u32 n477 = load32(frame + 1356u) + n953;
-            const u32 n458 = load32(frame + 1364u);
+            const u32 n457 = load32(frame + 1364u);
             const u32 n390 = load32(frame + 1360u);
-            const u64 w588 = (u64)n458 - (n458 - n390);
+            const u64 w588 = (u64)n457 - (n457 - n390);
             const u32 n707 = load8(frame + 1392u);
             const u64 w653 = load64(frame + 1408u);
             if (n537 == 7u) {
@@ -36412,19 +36862,19 @@ INTERNAL void checker_run_watched(word result, u64 alloc, u64 block, u64 block_l
                     const u32 n40 = load8(frame + 952u);
                     store64(frame + 1496u, load64(frame + 976u));
                     if (n40 == 1u) {
-                        std_collections_btree_node_Node_destroy(w635, frame + 1496u);
+                        std_collections_btree_node_Node_destroy2(w635, frame + 1496u);
                     }
                     const u64 w228 = load64(frame + 992u);
                     const u32 n989 = load8(frame + 984u);
                     store64(frame + 1496u, load64(frame + 1008u));
                     if (n989 == 1u) {
-                        std_collections_btree_node_Node_destroy2(w228, frame + 1496u);
+                        std_collections_btree_node_Node_destroy3(w228, frame + 1496u);
                     }
                     const word p968 = load_word(frame + 1048u);
                     const u64 w333 = load64(frame + 1040u);
                     const u64 w36 = load64(frame + 1024u);
-                    u64 w580 = load64(frame + 1032u);
-                    if (w580 != 0u) {
+                    u64 w579 = load64(frame + 1032u);
+                    if (w579 != 0u) {
                         word p116 = (word)w36 + 72u;
                         do {
                             const u64 w491 = load64(p116 - 8u);
@@ -36441,8 +36891,8 @@ INTERNAL void checker_run_watched(word result, u64 alloc, u64 block, u64 block_l
                                 store64(p495, load64(p495) - 1u);
                             }
                             p116 = p116 + 80u;
-                            w580 = w580 - 1u;
-                        } while (w580 != 0u);
+                            w579 = w579 - 1u;
+                        } while (w579 != 0u);
                     }
                     if (w333 != 0u) {
                         if (load64(p968 + 32u) == 1u) {
@@ -36546,7 +36996,7 @@ INTERNAL void checker_run_watched(word result, u64 alloc, u64 block, u64 block_l
                     const u32 n481 = load8(frame + 1224u);
                     store64(frame + 1496u, load64(frame + 1248u));
                     if (n481 == 1u) {
-                        std_collections_btree_node_Node_destroy3(w532, frame + 1496u);
+                        std_collections_btree_node_Node_destroy(w532, frame + 1496u);
                     }
                     const u64 w31 = load64(frame + 1272u);
                     if (w31 != 0u) {
@@ -36630,18 +37080,18 @@ INTERNAL void checker_run_watched(word result, u64 alloc, u64 block, u64 block_l
                                                                 if (load8(frame + 1436u) == 0u) {
                                                                 store32(frame + 1368u, 0u);
                                                                 store32(frame + 1356u, 0u);
-                                                                u32 n459 = load32(frame + 1364u);
+                                                                u32 n458 = load32(frame + 1364u);
                                                                 u32 n392 = load32(frame + 1360u);
-                                                                if (n459 - (load32(frame + 1352u) + n392) <= 10u) {
+                                                                if (n458 - (load32(frame + 1352u) + n392) <= 10u) {
                                                                 if
                                                                     (space_space_Space_try_reserve_without_index(frame +
                                                                     1336u, 11u) == 0u)
                                                                 goto L862;
-                                                                n459 = load32(frame + 1364u);
                                                                 n392 = load32(frame + 1360u);
+                                                                n458 = load32(frame + 1364u);
                                                                 }
                                                                 const u32 n585 = n392 + 11u;
-                                                                space_byte_writing_write_many(((word)(n459 - n585)
+                                                                space_byte_writing_write_many(((word)(n458 - n585)
                                                                     << 3) + load_word(frame + 1336u), TABLES + 769u,
                                                                     11u);
                                                                 store32(frame + 1360u, n585);
@@ -37109,9 +37559,9 @@ INTERNAL void checker_run_watched(word result, u64 alloc, u64 block, u64 block_l
                                                                 n139 = n850 - n167;
                                                                 if (n167 == n850)
                                                                 goto L104;
-                                                                const u32 n459 = load32(frame + 1364u);
+                                                                const u32 n458 = load32(frame + 1364u);
                                                                 const u32 n392 = load32(frame + 1360u);
-                                                                if (n459 - (load32(frame + 1352u) + n392 +
+                                                                if (n458 - (load32(frame + 1352u) + n392 +
                                                                     load32(frame + 1356u)) >= n139) {
                                                                 u64 w34 = n139;
                                                                 const word p895 = n10;
@@ -37153,7 +37603,7 @@ INTERNAL void checker_run_watched(word result, u64 alloc, u64 block, u64 block_l
                                                                 const u64 w576 = load64(p793 + 8u);
                                                                 const u64 w376 = load64(p793 + 16u);
                                                                 const u32 n679 = n139 + n392;
-                                                                const word p761 = n459 - n679;
+                                                                const word p761 = n458 - n679;
                                                                 const word p269 = (p761 << 3) + p769;
                                                                 store64(p269 + 24u, load64(p793 + 24u));
                                                                 store64(p269 + 16u, w376);
@@ -37178,7 +37628,7 @@ INTERNAL void checker_run_watched(word result, u64 alloc, u64 block, u64 block_l
                                                                 if (n139 < 2u) {
                                                                 if (n368 == 0u) {
                                                                 const u32 n679 = n139 + n392;
-                                                                store64(((word)(n459 - n679) << 3) + p769,
+                                                                store64(((word)(n458 - n679) << 3) + p769,
                                                                     load64(p793));
                                                                 store32(frame + 1360u, n679);
                                                                 goto L104;
@@ -37192,7 +37642,7 @@ INTERNAL void checker_run_watched(word result, u64 alloc, u64 block, u64 block_l
                                                                 goto L866;
                                                                 const u64 w163 = load64(p793);
                                                                 const u32 n679 = n139 + n392;
-                                                                const word p761 = n459 - n679;
+                                                                const word p761 = n458 - n679;
                                                                 const word p269 = (p761 << 3) + p769;
                                                                 store64(p269 + 8u, load64(p793 + 8u));
                                                                 store64(p269, w163);
@@ -37220,7 +37670,7 @@ INTERNAL void checker_run_watched(word result, u64 alloc, u64 block, u64 block_l
                                                                 if (load8(p204 - 8u) | n696)
                                                                 goto L866;
                                                                 const u32 n679 = n139 + n392;
-                                                                const word p761 = n459 - n679;
+                                                                const word p761 = n458 - n679;
                                                                 if (n139 >= 25u) {
                                                                 space_copies_copy_long(p769, p895, w704, p761);
                                                                 store32(frame + 1360u, n679);
@@ -37499,8 +37949,8 @@ INTERNAL void checker_run_watched(word result, u64 alloc, u64 block, u64 block_l
             store64(frame + 1432u, 0u);
             do {
                 if (w301 == w653) {
-                    u64 w580 = load64(frame + 1032u);
-                    if (w580 != 0u) {
+                    u64 w579 = load64(frame + 1032u);
+                    if (w579 != 0u) {
                         store64(frame + 1032u, 0u);
                         const u64 w333 = load64(frame + 1040u);
                         store64(frame + 1040u, 0u);
@@ -37521,16 +37971,16 @@ INTERNAL void checker_run_watched(word result, u64 alloc, u64 block, u64 block_l
                                 store64(p495, load64(p495) - 1u);
                             }
                             p116 = p116 + 80u;
-                            w580 = w580 - 1u;
-                        } while (w580 != 0u);
+                            w579 = w579 - 1u;
+                        } while (w579 != 0u);
                         store64(frame + 1040u, w333);
                         store64(frame + 1032u, 0u);
                         store64(frame + 1024u, w36);
                     }
                 } else {
-                    const u32 n459 = load32(frame + 1364u);
-                    const word p323 = n459 - load32(frame + 1360u);
-                    const u64 w145 = (u64)n459 - p323;
+                    const u32 n458 = load32(frame + 1364u);
+                    const word p322 = n458 - load32(frame + 1360u);
+                    const u64 w144 = (u64)n458 - p322;
                     const word p769 = load_word(frame + 1336u);
                     {
                         if (n92 == 0u) {
@@ -37539,16 +37989,13 @@ INTERNAL void checker_run_watched(word result, u64 alloc, u64 block, u64 block_l
                                 store64(frame + 1512u, 0u);
                                 store64(frame + 1504u, 0u);
                                 store64(frame + 1496u, 0u);
-                                const u64 w630 = w588 - w145;
+                                const u64 w630 = w588 - w144;
                                 u64 w508 = w630 > w588 ? 0u : w630;
-                                const u64 w893 = load64(frame + 1104u);
-                                u64 w52;
-                                if (w893 == 0u) {
-                                    w52 = load64(frame + 1072u);
-                                } else {
-                                    w52 = load64(frame + 1072u);
-                                    if (load64(((word)w893 << 5) + load_word(frame + 1096u) - 16u) >= w145) {
+                                const u64 w892 = load64(frame + 1104u);
+                                if (w892 != 0u) {
+                                    if (load64(((word)w892 << 5) + load_word(frame + 1096u) - 16u) >= w144) {
                                         {
+                                            u64 w52 = load64(frame + 1072u);
                                             if (w52 == 0u) {
                                                 store64(frame + 1504u, 0u);
                                                 store64(frame + 1512u, 0u);
@@ -37591,19 +38038,16 @@ INTERNAL void checker_run_watched(word result, u64 alloc, u64 block, u64 block_l
                                                                 w149 = w508 > w596 ? 18446744073709551615ull : w596;
                                                             }
                                                             const u64 w202 = load64(p561);
-                                                            word p354;
                                                             if (load64(frame + 1080u) + 1u == w52) {
                                                                 if (std_alloc_vec_Vec_grow_amortized(frame + 1064u)
                                                                     == 0u)
-                                                                goto L358;
+                                                                goto L357;
                                                                 const u64 w801 = load64(frame + 1072u);
                                                                 w52 = w801 + 1u;
+                                                                p114 = (word)w801 * 40u;
                                                                 p802 = load_word(frame + 1064u);
-                                                                p354 = (word)w801 * 40u;
-                                                            } else {
-                                                                p354 = p114;
                                                             }
-                                                            const word p597 = p354 + p802;
+                                                            const word p597 = p114 + p802;
                                                             const u64 w721 = w704 - w508;
                                                             store64(p597 + 32u, w704 < w721 ? 0u : w721);
                                                             store64(p597 + 24u, w149);
@@ -37635,12 +38079,13 @@ INTERNAL void checker_run_watched(word result, u64 alloc, u64 block, u64 block_l
                                                 }
                                             }
                                         }
-                                        if ((warnings_watch_Watch_warn_of_ends(frame + 1016u, n537, w145, frame +
+                                        if ((warnings_watch_Watch_warn_of_ends(frame + 1016u, n537, w144, frame +
                                             1496u) & 255u) == 0u)
                                             break;
-                                        goto L358;
+                                        goto L357;
                                     }
                                 }
+                                u64 w52 = load64(frame + 1072u);
                                 if (w52 == 0u)
                                     break;
                                 word p802 = load_word(frame + 1064u);
@@ -37691,7 +38136,7 @@ INTERNAL void checker_run_watched(word result, u64 alloc, u64 block, u64 block_l
                                         word p354;
                                         if (load64(frame + 1080u) + 1u == w52) {
                                             if (std_alloc_vec_Vec_grow_amortized(frame + 1064u) == 0u)
-                                                goto L358;
+                                                goto L357;
                                             const u64 w801 = load64(frame + 1072u);
                                             w52 = w801 + 1u;
                                             p802 = load_word(frame + 1064u);
@@ -37718,22 +38163,22 @@ INTERNAL void checker_run_watched(word result, u64 alloc, u64 block, u64 block_l
                                 break;
                             }
                         }
-                        const word p988 = p323 << 3;
+                        const word p987 = p322 << 3;
                         word p67 = frame + 1056u;
                         word p71 = 0u;
-                        u64 w71 = 0u;
-                        u64 w72 = 0u;
+                        u64 w68 = 0u;
+                        u64 w69 = 0u;
                         const u64 w801 = load64(frame + 1072u);
                         if (w801 != 0u) {
                             const word p446 = (word)w801 * 40u + load_word(frame + 1064u);
                             p67 = p446 - 40u;
                             p71 = load8(p446 - 32u);
-                            w72 = load64(p446 - 16u);
-                            w71 = load64(p446 - 24u);
+                            w69 = load64(p446 - 16u);
+                            w68 = load64(p446 - 24u);
                         }
-                        const word p807 = p769 + p988;
-                        store64(frame + 1488u, w72);
-                        store64(frame + 1480u, w71);
+                        const word p806 = p769 + p987;
+                        store64(frame + 1488u, w69);
+                        store64(frame + 1480u, w68);
                         store64(frame + 1472u, p71);
                         store64(frame + 1464u, load64(p67));
                         store64(frame + 1528u, 0u);
@@ -37747,32 +38192,32 @@ INTERNAL void checker_run_watched(word result, u64 alloc, u64 block, u64 block_l
                             store64(frame + 1456u, 0u);
                             store64(frame + 1432u, load64(frame + 1056u));
                         } else {
-                            u64 w113;
                             u32 n251;
                             u64 w289;
                             u64 w244;
+                            u64 w113;
                             do {
-                                const u64 w806 = w145 + 1u;
+                                const u64 w806 = w144 + 1u;
                                 const u64 w903 = w806 == 0u ? 18446744073709551615ull : w806;
                                 if (w903 > w588) {
                                     const u64 w502 = w903 - w588;
                                     const u64 w978 = w502 > w903 ? 0u : w502;
-                                    if (w978 <= w145) {
-                                        warnings_watch_Watch_origin_of_argument(frame + 1496u, frame + 1016u, p807,
+                                    if (w978 <= w144) {
+                                        warnings_watch_Watch_origin_of_argument(frame + 1496u, frame + 1016u, p806,
                                             w978);
                                         if (load8(frame + 1496u) == 1u) {
-                                            w113 = load64(frame + 1504u);
                                             n251 = load8(frame + 1512u);
                                             w289 = load64(frame + 1520u);
                                             w244 = load64(frame + 1528u);
+                                            w113 = load64(frame + 1504u);
                                             break;
                                         }
                                     }
                                 }
+                                w244 = load64(frame + 1320u);
                                 w289 = load64(frame + 1312u);
                                 n251 = load8(frame + 1304u);
                                 w113 = load64(frame + 1296u);
-                                w244 = load64(frame + 1320u);
                             } while (0);
                             store64(frame + 1456u, w244);
                             store64(frame + 1448u, w289);
@@ -37782,47 +38227,216 @@ INTERNAL void checker_run_watched(word result, u64 alloc, u64 block, u64 block_l
                         const u32 n954 = load32(frame + 1352u);
                         const u32 n434 = load32(frame + 1356u);
                         const u32 n265 = warnings_watch_Watch_warn_of_rule(frame + 1016u, frame + 888u, frame +
-                            1464u, p807, w145, (u64)(n434 + n954) - n954);
+                            1464u, p806, w144, (u64)(n434 + n954) - n954);
                         if ((n265 & 255u) == 0u) {
                             const u32 n32 = warnings_watch_Watch_move_on(frame + 1016u, frame + 888u, frame + 1336u,
                                 frame + 1432u);
                             if ((n32 & 255u) == 0u) {
-                                u64 w73 = 0u;
+                                u64 w70 = 0u;
                                 if (n217 == 0u) {
-                                    const u32 n460 = load32(frame + 1364u);
-                                    const u64 w589 = (u64)n460 - (n460 - load32(frame + 1360u));
+                                    const u32 n459 = load32(frame + 1364u);
+                                    const u64 w589 = (u64)n459 - (n459 - load32(frame + 1360u));
                                     const u64 w972 = w589 + 1u;
                                     const u64 w443 = w972 - w588;
                                     const u64 w785 = w972 < w443 ? 0u : w443;
-                                    w73 = w589 < w785 ? w589 : w785;
-                                    if (w73 == 0u) {
+                                    w70 = w589 < w785 ? w589 : w785;
+                                    if (w70 == 0u) {
                                         const u32 n955 = load32(frame + 1352u);
                                         const u64 w796 = (u64)(load32(frame + 1356u) + n955) - n955;
                                         const u64 w693 = w796 - p353;
-                                        w73 = w796 < w693 ? 0u : w693;
+                                        w70 = w796 < w693 ? 0u : w693;
                                     }
                                 }
-                                if ((warnings_watch_Watch_warn_of_read(frame + 1016u, frame + 888u, w73, w145,
+                                if ((warnings_watch_Watch_warn_of_read(frame + 1016u, frame + 888u, w70, w144,
                                     (word)input, input_len) & 255u) == 0u) {
-                                    if ((warnings_watch_Watch_warn_of_ends(frame + 1016u, n537, w145, frame + 1464u)
+                                    if ((warnings_watch_Watch_warn_of_ends(frame + 1016u, n537, w144, frame + 1464u)
                                         & 255u) == 0u)
                                         break;
                                 }
                             }
                         }
                     }
-                L358:;
+                L357:;
                     const u64 w635 = load64(frame + 960u);
                     const u32 n40 = load8(frame + 952u);
                     store64(frame + 1496u, load64(frame + 976u));
                     if (n40 == 1u) {
-                        std_collections_btree_node_Node_destroy(w635, frame + 1496u);
+                        std_collections_btree_node_Node_destroy2(w635, frame + 1496u);
                     }
                     const u64 w228 = load64(frame + 992u);
                     const u32 n989 = load8(frame + 984u);
                     store64(frame + 1496u, load64(frame + 1008u));
                     if (n989 == 1u) {
-                        std_collections_btree_node_Node_destroy2(w228, frame + 1496u);
+                        std_collections_btree_node_Node_destroy3(w228, frame + 1496u);
+                    }
+                    const word p968 = load_word(frame + 1048u);
+                    const u64 w333 = load64(frame + 1040u);
+                    const u64 w36 = load64(frame + 1024u);
+                    u64 w579 = load64(frame + 1032u);
+                    if (w579 != 0u) {
+                        word p116 = (word)w36 + 72u;
+                        do {
+                            const u64 w491 = load64(p116 - 8u);
+                            if (w491 != 0u) {
+                                const word p36 = load_word(p116);
+                                if (load64(p36 + 32u) == 1u) {
+                                    const word p374 = load_word(p36 + 24u);
+                                    const u64 w394 = load64(p374 + 32u);
+                                    if (load64(p374) + w394 == load64(p116 - 24u)) {
+                                        store64(p374 + 32u, w394 + w491);
+                                    }
+                                }
+                                const word p495 = p36 + 40u;
+                                store64(p495, load64(p495) - 1u);
+                            }
+                            p116 = p116 + 80u;
+                            w579 = w579 - 1u;
+                        } while (w579 != 0u);
+                    }
+                    if (w333 != 0u) {
+                        if (load64(p968 + 32u) == 1u) {
+                            const word p744 = load_word(p968 + 24u);
+                            const u64 w344 = load64(p744 + 32u);
+                            if (load64(p744) + w344 == w36) {
+                                store64(p744 + 32u, w333 * 80u + w344);
+                            }
+                        }
+                        const word p719 = p968 + 40u;
+                        store64(p719, load64(p719) - 1u);
+                    }
+                    const u64 w566 = load64(frame + 1080u);
+                    if (w566 != 0u) {
+                        const word p839 = load_word(frame + 1088u);
+                        if (load64(p839 + 32u) == 1u) {
+                            const word p517 = load_word(p839 + 24u);
+                            const u64 w679 = load64(p517 + 32u);
+                            if (load64(p517) + w679 == load64(frame + 1064u)) {
+                                store64(p517 + 32u, w566 * 40u + w679);
+                            }
+                        }
+                        const word p209 = p839 + 40u;
+                        store64(p209, load64(p209) - 1u);
+                    }
+                    const u64 w704 = load64(frame + 1112u);
+                    if (w704 != 0u) {
+                        const word p602 = load_word(frame + 1120u);
+                        if (load64(p602 + 32u) == 1u) {
+                            const word p656 = load_word(p602 + 24u);
+                            const u64 w818 = load64(p656 + 32u);
+                            if (load64(p656) + w818 == load64(frame + 1096u)) {
+                                store64(p656 + 32u, (w704 << 5) + w818);
+                            }
+                        }
+                        const word p414 = p602 + 40u;
+                        store64(p414, load64(p414) - 1u);
+                    }
+                    const u64 w689 = load64(frame + 1144u);
+                    if (w689 != 0u) {
+                        const word p819 = load_word(frame + 1152u);
+                        if (load64(p819 + 32u) == 1u) {
+                            const word p146 = load_word(p819 + 24u);
+                            const u64 w149 = load64(p146 + 32u);
+                            if (load64(p146) + w149 == load64(frame + 1128u)) {
+                                store64(p146 + 32u, (w689 << 5) + w149);
+                            }
+                        }
+                        const word p140 = p819 + 40u;
+                        store64(p140, load64(p140) - 1u);
+                    }
+                    const u64 w495 = load64(frame + 1176u);
+                    if (w495 != 0u) {
+                        const word p463 = load_word(frame + 1184u);
+                        if (load64(p463 + 32u) == 1u) {
+                            const word p613 = load_word(p463 + 24u);
+                            const u64 w385 = load64(p613 + 32u);
+                            if (load64(p613) + w385 == load64(frame + 1160u)) {
+                                store64(p613 + 32u, (w495 << 5) + w385);
+                            }
+                        }
+                        const word p969 = p463 + 40u;
+                        store64(p969, load64(p969) - 1u);
+                    }
+                    const word p921 = load_word(frame + 1216u);
+                    const u64 w938 = load64(frame + 1208u);
+                    const u64 w327 = load64(frame + 1192u);
+                    u64 w312 = load64(frame + 1200u);
+                    if (w312 != 0u) {
+                        word p327 = (word)w327;
+                        do {
+                            const u64 w24 = load64(p327 + 16u);
+                            if (w24 != 0u) {
+                                const word p775 = load_word(p327 + 24u);
+                                if (load64(p775 + 32u) == 1u) {
+                                    const word p163 = load_word(p775 + 24u);
+                                    const u64 w163 = load64(p163 + 32u);
+                                    if (load64(p163) + w163 == load64(p327)) {
+                                        store64(p163 + 32u, w24 + w163);
+                                    }
+                                }
+                                const word p801 = p775 + 40u;
+                                store64(p801, load64(p801) - 1u);
+                            }
+                            p327 = p327 + 32u;
+                            w312 = w312 - 1u;
+                        } while (w312 != 0u);
+                    }
+                    if (w938 != 0u) {
+                        if (load64(p921 + 32u) == 1u) {
+                            const word p206 = load_word(p921 + 24u);
+                            const u64 w25 = load64(p206 + 32u);
+                            if (load64(p206) + w25 == w327) {
+                                store64(p206 + 32u, (w938 << 5) + w25);
+                            }
+                        }
+                        const word p364 = p921 + 40u;
+                        store64(p364, load64(p364) - 1u);
+                    }
+                    const u64 w532 = load64(frame + 1232u);
+                    const u32 n481 = load8(frame + 1224u);
+                    store64(frame + 1496u, load64(frame + 1248u));
+                    if (n481 == 1u) {
+                        std_collections_btree_node_Node_destroy(w532, frame + 1496u);
+                    }
+                    const u64 w31 = load64(frame + 1272u);
+                    if (w31 != 0u) {
+                        const word p132 = load_word(frame + 1280u);
+                        if (load64(p132 + 32u) == 1u) {
+                            const word p388 = load_word(p132 + 24u);
+                            const u64 w912 = load64(p388 + 32u);
+                            if (load64(p388) + w912 == load64(frame + 1256u)) {
+                                store64(p388 + 32u, (w31 << 3) + w912);
+                            }
+                        }
+                        const word p669 = p132 + 40u;
+                        store64(p669, load64(p669) - 1u);
+                    }
+                    store8(result, 1u);
+                    fill(result + 8u, 0u, 408u);
+                    return;
+                }
+            } while (0);
+            for (;;) {
+                const u64 w579 = load64(frame + 1032u);
+                if (w579 == 0u) {
+                    if ((n218 & 255u) != 1u)
+                        break;
+                    goto L272;
+                }
+                const u64 w160 = w579 - 1u;
+                store64(frame + 1032u, w160);
+                copy(frame + 1496u, (word)w160 * 80u + load_word(frame + 1024u), 80u);
+                if ((warnings_findings_Findings_add(frame + 952u, frame + 1496u) & 255u) != 0u) {
+                    const u64 w635 = load64(frame + 960u);
+                    const u32 n40 = load8(frame + 952u);
+                    store64(frame + 1496u, load64(frame + 976u));
+                    if (n40 == 1u) {
+                        std_collections_btree_node_Node_destroy2(w635, frame + 1496u);
+                    }
+                    const u64 w228 = load64(frame + 992u);
+                    const u32 n989 = load8(frame + 984u);
+                    store64(frame + 1496u, load64(frame + 1008u));
+                    if (n989 == 1u) {
+                        std_collections_btree_node_Node_destroy3(w228, frame + 1496u);
                     }
                     const word p968 = load_word(frame + 1048u);
                     const u64 w333 = load64(frame + 1040u);
@@ -37950,176 +38564,7 @@ INTERNAL void checker_run_watched(word result, u64 alloc, u64 block, u64 block_l
                     const u32 n481 = load8(frame + 1224u);
                     store64(frame + 1496u, load64(frame + 1248u));
                     if (n481 == 1u) {
-                        std_collections_btree_node_Node_destroy3(w532, frame + 1496u);
-                    }
-                    const u64 w31 = load64(frame + 1272u);
-                    if (w31 != 0u) {
-                        const word p132 = load_word(frame + 1280u);
-                        if (load64(p132 + 32u) == 1u) {
-                            const word p388 = load_word(p132 + 24u);
-                            const u64 w912 = load64(p388 + 32u);
-                            if (load64(p388) + w912 == load64(frame + 1256u)) {
-                                store64(p388 + 32u, (w31 << 3) + w912);
-                            }
-                        }
-                        const word p669 = p132 + 40u;
-                        store64(p669, load64(p669) - 1u);
-                    }
-                    store8(result, 1u);
-                    fill(result + 8u, 0u, 408u);
-                    return;
-                }
-            } while (0);
-            for (;;) {
-                const u64 w580 = load64(frame + 1032u);
-                if (w580 == 0u) {
-                    if ((n218 & 255u) != 1u)
-                        break;
-                    goto L272;
-                }
-                const u64 w160 = w580 - 1u;
-                store64(frame + 1032u, w160);
-                copy(frame + 1496u, (word)w160 * 80u + load_word(frame + 1024u), 80u);
-                if ((warnings_findings_Findings_add(frame + 952u, frame + 1496u) & 255u) != 0u) {
-                    const u64 w635 = load64(frame + 960u);
-                    const u32 n40 = load8(frame + 952u);
-                    store64(frame + 1496u, load64(frame + 976u));
-                    if (n40 == 1u) {
-                        std_collections_btree_node_Node_destroy(w635, frame + 1496u);
-                    }
-                    const u64 w228 = load64(frame + 992u);
-                    const u32 n989 = load8(frame + 984u);
-                    store64(frame + 1496u, load64(frame + 1008u));
-                    if (n989 == 1u) {
-                        std_collections_btree_node_Node_destroy2(w228, frame + 1496u);
-                    }
-                    const word p968 = load_word(frame + 1048u);
-                    const u64 w333 = load64(frame + 1040u);
-                    const u64 w36 = load64(frame + 1024u);
-                    u64 w581 = load64(frame + 1032u);
-                    if (w581 != 0u) {
-                        word p116 = (word)w36 + 72u;
-                        do {
-                            const u64 w491 = load64(p116 - 8u);
-                            if (w491 != 0u) {
-                                const word p36 = load_word(p116);
-                                if (load64(p36 + 32u) == 1u) {
-                                    const word p374 = load_word(p36 + 24u);
-                                    const u64 w394 = load64(p374 + 32u);
-                                    if (load64(p374) + w394 == load64(p116 - 24u)) {
-                                        store64(p374 + 32u, w394 + w491);
-                                    }
-                                }
-                                const word p495 = p36 + 40u;
-                                store64(p495, load64(p495) - 1u);
-                            }
-                            p116 = p116 + 80u;
-                            w581 = w581 - 1u;
-                        } while (w581 != 0u);
-                    }
-                    if (w333 != 0u) {
-                        if (load64(p968 + 32u) == 1u) {
-                            const word p744 = load_word(p968 + 24u);
-                            const u64 w344 = load64(p744 + 32u);
-                            if (load64(p744) + w344 == w36) {
-                                store64(p744 + 32u, w333 * 80u + w344);
-                            }
-                        }
-                        const word p719 = p968 + 40u;
-                        store64(p719, load64(p719) - 1u);
-                    }
-                    const u64 w566 = load64(frame + 1080u);
-                    if (w566 != 0u) {
-                        const word p839 = load_word(frame + 1088u);
-                        if (load64(p839 + 32u) == 1u) {
-                            const word p517 = load_word(p839 + 24u);
-                            const u64 w679 = load64(p517 + 32u);
-                            if (load64(p517) + w679 == load64(frame + 1064u)) {
-                                store64(p517 + 32u, w566 * 40u + w679);
-                            }
-                        }
-                        const word p209 = p839 + 40u;
-                        store64(p209, load64(p209) - 1u);
-                    }
-                    const u64 w704 = load64(frame + 1112u);
-                    if (w704 != 0u) {
-                        const word p602 = load_word(frame + 1120u);
-                        if (load64(p602 + 32u) == 1u) {
-                            const word p656 = load_word(p602 + 24u);
-                            const u64 w818 = load64(p656 + 32u);
-                            if (load64(p656) + w818 == load64(frame + 1096u)) {
-                                store64(p656 + 32u, (w704 << 5) + w818);
-                            }
-                        }
-                        const word p414 = p602 + 40u;
-                        store64(p414, load64(p414) - 1u);
-                    }
-                    const u64 w689 = load64(frame + 1144u);
-                    if (w689 != 0u) {
-                        const word p819 = load_word(frame + 1152u);
-                        if (load64(p819 + 32u) == 1u) {
-                            const word p146 = load_word(p819 + 24u);
-                            const u64 w149 = load64(p146 + 32u);
-                            if (load64(p146) + w149 == load64(frame + 1128u)) {
-                                store64(p146 + 32u, (w689 << 5) + w149);
-                            }
-                        }
-                        const word p140 = p819 + 40u;
-                        store64(p140, load64(p140) - 1u);
-                    }
-                    const u64 w495 = load64(frame + 1176u);
-                    if (w495 != 0u) {
-                        const word p463 = load_word(frame + 1184u);
-                        if (load64(p463 + 32u) == 1u) {
-                            const word p613 = load_word(p463 + 24u);
-                            const u64 w385 = load64(p613 + 32u);
-                            if (load64(p613) + w385 == load64(frame + 1160u)) {
-                                store64(p613 + 32u, (w495 << 5) + w385);
-                            }
-                        }
-                        const word p969 = p463 + 40u;
-                        store64(p969, load64(p969) - 1u);
-                    }
-                    const word p921 = load_word(frame + 1216u);
-                    const u64 w938 = load64(frame + 1208u);
-                    const u64 w327 = load64(frame + 1192u);
-                    u64 w312 = load64(frame + 1200u);
-                    if (w312 != 0u) {
-                        word p327 = (word)w327;
-                        do {
-                            const u64 w24 = load64(p327 + 16u);
-                            if (w24 != 0u) {
-                                const word p775 = load_word(p327 + 24u);
-                                if (load64(p775 + 32u) == 1u) {
-                                    const word p163 = load_word(p775 + 24u);
-                                    const u64 w163 = load64(p163 + 32u);
-                                    if (load64(p163) + w163 == load64(p327)) {
-                                        store64(p163 + 32u, w24 + w163);
-                                    }
-                                }
-                                const word p801 = p775 + 40u;
-                                store64(p801, load64(p801) - 1u);
-                            }
-                            p327 = p327 + 32u;
-                            w312 = w312 - 1u;
-                        } while (w312 != 0u);
-                    }
-                    if (w938 != 0u) {
-                        if (load64(p921 + 32u) == 1u) {
-                            const word p206 = load_word(p921 + 24u);
-                            const u64 w25 = load64(p206 + 32u);
-                            if (load64(p206) + w25 == w327) {
-                                store64(p206 + 32u, (w938 << 5) + w25);
-                            }
-                        }
-                        const word p364 = p921 + 40u;
-                        store64(p364, load64(p364) - 1u);
-                    }
-                    const u64 w532 = load64(frame + 1232u);
-                    const u32 n481 = load8(frame + 1224u);
-                    store64(frame + 1496u, load64(frame + 1248u));
-                    if (n481 == 1u) {
-                        std_collections_btree_node_Node_destroy3(w532, frame + 1496u);
+                        std_collections_btree_node_Node_destroy(w532, frame + 1496u);
                     }
                     const u64 w31 = load64(frame + 1272u);
                     if (w31 != 0u) {
@@ -38152,7 +38597,7 @@ INTERNAL void checker_run_watched(word result, u64 alloc, u64 block, u64 block_l
                 const u32 n106 = load8(frame + 400u);
                 store64(frame + 8u, load64(frame + 424u));
                 if (n106 == 1u) {
-                    std_collections_btree_node_Node_destroy(w56, frame + 8u);
+                    std_collections_btree_node_Node_destroy2(w56, frame + 8u);
                 }
                 store64(frame + 368u, load8(frame + 984u));
                 store64(frame + 376u, load64(frame + 992u));
@@ -38162,7 +38607,7 @@ INTERNAL void checker_run_watched(word result, u64 alloc, u64 block, u64 block_l
                 const u32 n508 = load8(frame + 368u);
                 store64(frame + 8u, load64(frame + 392u));
                 if (n508 == 1u) {
-                    std_collections_btree_node_Node_destroy2(w176, frame + 8u);
+                    std_collections_btree_node_Node_destroy3(w176, frame + 8u);
                 }
                 store64(frame + 360u, load64(frame + 1048u));
                 store64(frame + 352u, load64(frame + 1040u));
@@ -38214,7 +38659,7 @@ INTERNAL void checker_run_watched(word result, u64 alloc, u64 block, u64 block_l
                 const u32 n756 = load8(frame + 144u);
                 store64(frame + 8u, load64(frame + 168u));
                 if (n756 == 1u) {
-                    std_collections_btree_node_Node_destroy3(w299, frame + 8u);
+                    std_collections_btree_node_Node_destroy(w299, frame + 8u);
                 }
                 store64(frame + 136u, load64(frame + 1280u));
                 store64(frame + 128u, load64(frame + 1272u));
@@ -38260,13 +38705,13 @@ INTERNAL void checker_run_watched(word result, u64 alloc, u64 block, u64 block_l
         const u32 n40 = load8(frame + 952u);
         store64(frame + 1496u, load64(frame + 976u));
         if (n40 == 1u) {
-            std_collections_btree_node_Node_destroy(w635, frame + 1496u);
+            std_collections_btree_node_Node_destroy2(w635, frame + 1496u);
         }
         const u64 w228 = load64(frame + 992u);
         const u32 n989 = load8(frame + 984u);
         store64(frame + 1496u, load64(frame + 1008u));
         if (n989 == 1u) {
-            std_collections_btree_node_Node_destroy2(w228, frame + 1496u);
+            std_collections_btree_node_Node_destroy3(w228, frame + 1496u);
         }
         const word p968 = load_word(frame + 1048u);
         const u64 w333 = load64(frame + 1040u);
@@ -38394,7 +38839,7 @@ INTERNAL void checker_run_watched(word result, u64 alloc, u64 block, u64 block_l
         const u32 n481 = load8(frame + 1224u);
         store64(frame + 1496u, load64(frame + 1248u));
         if (n481 == 1u) {
-            std_collections_btree_node_Node_destroy3(w532, frame + 1496u);
+            std_collections_btree_node_Node_destroy(w532, frame + 1496u);
         }
         const u64 w31 = load64(frame + 1272u);
         if (w31 != 0u) {
@@ -38413,6 +38858,185 @@ INTERNAL void checker_run_watched(word result, u64 alloc, u64 block, u64 block_l
         fill(result + 8u, 0u, 408u);
         return;
     }
+    const word p968 = load_word(frame + 1048u);
+    const u64 w333 = load64(frame + 1040u);
+    const u64 w36 = load64(frame + 1024u);
+    u64 w579 = load64(frame + 1032u);
+    if (w579 != 0u) {
+        word p116 = (word)w36 + 72u;
+        do {
+            const u64 w491 = load64(p116 - 8u);
+            if (w491 != 0u) {
+                const word p36 = load_word(p116);
+                if (load64(p36 + 32u) == 1u) {
+                    const word p374 = load_word(p36 + 24u);
+                    const u64 w394 = load64(p374 + 32u);
+                    if (load64(p374) + w394 == load64(p116 - 24u)) {
+                        store64(p374 + 32u, w394 + w491);
+                    }
+                }
+                const word p495 = p36 + 40u;
+                store64(p495, load64(p495) - 1u);
+            }
+            p116 = p116 + 80u;
+            w579 = w579 - 1u;
+        } while (w579 != 0u);
+    }
+    if (w333 != 0u) {
+        if (load64(p968 + 32u) == 1u) {
+            const word p744 = load_word(p968 + 24u);
+            const u64 w344 = load64(p744 + 32u);
+            if (load64(p744) + w344 == w36) {
+                store64(p744 + 32u, w333 * 80u + w344);
+            }
+        }
+        const word p719 = p968 + 40u;
+        store64(p719, load64(p719) - 1u);
+    }
+    const u64 w566 = load64(frame + 1080u);
+    if (w566 != 0u) {
+        const word p839 = load_word(frame + 1088u);
+        if (load64(p839 + 32u) == 1u) {
+            const word p517 = load_word(p839 + 24u);
+            const u64 w679 = load64(p517 + 32u);
+            if (load64(p517) + w679 == load64(frame + 1064u)) {
+                store64(p517 + 32u, w566 * 40u + w679);
+            }
+        }
+        const word p209 = p839 + 40u;
+        store64(p209, load64(p209) - 1u);
+    }
+    const u64 w704 = load64(frame + 1112u);
+    if (w704 != 0u) {
+        const word p602 = load_word(frame + 1120u);
+        if (load64(p602 + 32u) == 1u) {
+            const word p656 = load_word(p602 + 24u);
+            const u64 w818 = load64(p656 + 32u);
+            if (load64(p656) + w818 == load64(frame + 1096u)) {
+                store64(p656 + 32u, (w704 << 5) + w818);
+            }
+        }
+        const word p414 = p602 + 40u;
+        store64(p414, load64(p414) - 1u);
+    }
+    const u64 w689 = load64(frame + 1144u);
+    if (w689 != 0u) {
+        const word p819 = load_word(frame + 1152u);
+        if (load64(p819 + 32u) == 1u) {
+            const word p146 = load_word(p819 + 24u);
+            const u64 w149 = load64(p146 + 32u);
+            if (load64(p146) + w149 == load64(frame + 1128u)) {
+                store64(p146 + 32u, (w689 << 5) + w149);
+            }
+        }
+        const word p140 = p819 + 40u;
+        store64(p140, load64(p140) - 1u);
+    }
+    const u64 w495 = load64(frame + 1176u);
+    if (w495 != 0u) {
+        const word p463 = load_word(frame + 1184u);
+        if (load64(p463 + 32u) == 1u) {
+            const word p613 = load_word(p463 + 24u);
+            const u64 w385 = load64(p613 + 32u);
+            if (load64(p613) + w385 == load64(frame + 1160u)) {
+                store64(p613 + 32u, (w495 << 5) + w385);
+            }
+        }
+        const word p969 = p463 + 40u;
+        store64(p969, load64(p969) - 1u);
+    }
+    const word p921 = load_word(frame + 1216u);
+    const u64 w938 = load64(frame + 1208u);
+    const u64 w327 = load64(frame + 1192u);
+    u64 w312 = load64(frame + 1200u);
+    if (w312 != 0u) {
+        word p327 = (word)w327;
+        do {
+            const u64 w24 = load64(p327 + 16u);
+            if (w24 != 0u) {
+                const word p775 = load_word(p327 + 24u);
+                if (load64(p775 + 32u) == 1u) {
+                    const word p163 = load_word(p775 + 24u);
+                    const u64 w163 = load64(p163 + 32u);
+                    if (load64(p163) + w163 == load64(p327)) {
+                        store64(p163 + 32u, w24 + w163);
+                    }
+                }
+                const word p801 = p775 + 40u;
+                store64(p801, load64(p801) - 1u);
+            }
+            p327 = p327 + 32u;
+            w312 = w312 - 1u;
+        } while (w312 != 0u);
+    }
+    if (w938 != 0u) {
+        if (load64(p921 + 32u) == 1u) {
+            const word p206 = load_word(p921 + 24u);
+            const u64 w25 = load64(p206 + 32u);
+            if (load64(p206) + w25 == w327) {
+                store64(p206 + 32u, (w938 << 5) + w25);
+            }
+        }
+        const word p364 = p921 + 40u;
+        store64(p364, load64(p364) - 1u);
+    }
+    const u64 w532 = load64(frame + 1232u);
+    const u32 n481 = load8(frame + 1224u);
+    store64(frame + 1496u, load64(frame + 1248u));
+    if (n481 == 1u) {
+        std_collections_btree_node_Node_destroy(w532, frame + 1496u);
+    }
+    const u64 w31 = load64(frame + 1272u);
+    if (w31 != 0u) {
+        const word p132 = load_word(frame + 1280u);
+        if (load64(p132 + 32u) == 1u) {
+            const word p388 = load_word(p132 + 24u);
+            const u64 w912 = load64(p388 + 32u);
+            if (load64(p388) + w912 == load64(frame + 1256u)) {
+                store64(p388 + 32u, (w31 << 3) + w912);
+            }
+        }
+        const word p669 = p132 + 40u;
+        store64(p669, load64(p669) - 1u);
+    }
+    store8(result, 1u);
+    fill(result + 8u, 0u, 408u);
+}
+
+/* trac_checker::run::pass_row::<#f933f01a1e4bfb09>. */
+static u32 checker_run_pass_row(word machine, word watch, u64 steps) {
+    u64 room[10];
+    const word frame = (word)room;
+    warnings_watch_Watch_follow_row(frame, watch, machine, steps - load64(machine + 72u));
+    const u32 n550 = load8(frame);
+    if (n550) {
+        return n550;
+    }
+    const word p4 = machine + 84u;
+    if (load8(p4) == 1u) {
+        return n550;
+    }
+    const u64 w275 = load64(frame + 8u);
+    const u32 n582 = load8(machine + 86u);
+    store64(frame + 72u, 0u);
+    store64(frame + 16u, 0u);
+    store64(frame + 24u, 0u);
+    store64(frame + 32u, 0u);
+    store64(frame + 40u, 0u);
+    store64(frame + 48u, 0u);
+    const word p61 = machine + 80u;
+    store32(frame + 72u, load32(p61));
+    const word p177 = machine + 72u;
+    store64(frame + 64u, load64(p177));
+    store64(frame + 56u, load64(machine + 64u));
+    const word p556 = machine + 56u;
+    const word p624 = machine + 60u;
+    core_machine_advancing_go_on(frame + 16u, machine, p556, load32(p624), frame + 56u, w275, n582);
+    store64(p177, load64(frame + 40u));
+    store32(p61, load32(frame + 48u));
+    store16(p4, load16(frame + 52u));
+    store32(p624, load32(frame + 32u));
+    return n550;
 }
 
 /* trac_checker::run::of_script::<#f933f01a1e4bfb09>. */
@@ -38474,13 +39098,13 @@ static void checker_run_of_script(word result, u64 alloc, u64 input, u64 input_l
         const u32 n397 = load8(frame + 40u);
         store64(frame + 200u, load64(frame + 64u));
         if (n397 == 1u) {
-            std_collections_btree_node_Node_destroy(w480, frame + 200u);
+            std_collections_btree_node_Node_destroy2(w480, frame + 200u);
         }
         const u64 w671 = load64(frame + 80u);
         const u32 n493 = load8(frame + 72u);
         store64(frame + 200u, load64(frame + 96u));
         if (n493 == 1u) {
-            std_collections_btree_node_Node_destroy2(w671, frame + 200u);
+            std_collections_btree_node_Node_destroy3(w671, frame + 200u);
         }
         store8(result, 1u);
         store64(result + 8u, 0u);
@@ -38528,13 +39152,13 @@ static void checker_run_of_script(word result, u64 alloc, u64 input, u64 input_l
     const u32 n397 = load8(frame + 40u);
     store64(frame + 200u, alloc);
     if (n397 == 1u) {
-        std_collections_btree_node_Node_destroy(w480, frame + 200u);
+        std_collections_btree_node_Node_destroy2(w480, frame + 200u);
     }
     const u64 w671 = load64(frame + 80u);
     const u32 n493 = load8(frame + 72u);
     store64(frame + 200u, alloc);
     if (n493 == 1u) {
-        std_collections_btree_node_Node_destroy2(w671, frame + 200u);
+        std_collections_btree_node_Node_destroy3(w671, frame + 200u);
     }
     store8(result, 1u);
     store64(result + 8u, 0u);
@@ -38548,7 +39172,7 @@ static void checker_run_of_script(word result, u64 alloc, u64 input, u64 input_l
 }
 #endif
 
-#if UNITS & 0x20
+#if UNITS & 0x40
 
 /* trac_checker::run::add_fault::<#f933f01a1e4bfb09>. */
 INTERNAL u32 checker_run_add_fault(word findings, u64 alloc, u64 watch, u32 fate, word input, u64 input_len) {
@@ -38711,7 +39335,7 @@ INTERNAL u32 checker_run_add_names(word findings, u64 alloc, u64 input, u64 inpu
 }
 #endif
 
-#if UNITS & 0x40
+#if UNITS & 0x20
 
 /* Adds a line for each warning, which begins with `head`, in the order of their places in `input`, the whole input;
  * but no line for a warning that another one explains. */
@@ -39080,7 +39704,7 @@ static u32 checker_run_WatchedRun_push_line(word a1, word a2, word a3, u64 a4, u
     }
     u32 n216;
     if (w511 - w322 <= 4u) {
-        if (std_alloc_vec_Vec_grow_amortized4(a2, 5u) == 0u) {
+        if (std_alloc_vec_Vec_grow_amortized3(a2, 5u) == 0u) {
             n216 = 1u;
             return n216;
         }
@@ -39108,7 +39732,7 @@ static u32 checker_run_WatchedRun_push_line(word a1, word a2, word a3, u64 a4, u
     const u64 w216 = itoa_integer_write_unsigned(a4, frame + 8u);
     const u64 w922 = 40u - w216;
     if (w511 - w323 < w922) {
-        if (std_alloc_vec_Vec_grow_amortized4(a2, w922) == 0u) {
+        if (std_alloc_vec_Vec_grow_amortized3(a2, w922) == 0u) {
             n216 = 1u;
             return n216;
         }
@@ -39124,7 +39748,7 @@ static u32 checker_run_WatchedRun_push_line(word a1, word a2, word a3, u64 a4, u
     store64(a2 + 8u, w324);
     store64(a2, w442);
     if (w511 - w324 <= 8u) {
-        if (std_alloc_vec_Vec_grow_amortized4(a2, 9u) == 0u) {
+        if (std_alloc_vec_Vec_grow_amortized3(a2, 9u) == 0u) {
             n216 = 1u;
             return n216;
         }
@@ -39152,7 +39776,7 @@ static u32 checker_run_WatchedRun_push_line(word a1, word a2, word a3, u64 a4, u
     const u64 w356 = itoa_integer_write_unsigned(a5, frame + 8u);
     const u64 w123 = 40u - w356;
     if (w511 - w72 < w123) {
-        if (std_alloc_vec_Vec_grow_amortized4(a2, w123) == 0u) {
+        if (std_alloc_vec_Vec_grow_amortized3(a2, w123) == 0u) {
             n216 = 1u;
             return n216;
         }
@@ -39168,7 +39792,7 @@ static u32 checker_run_WatchedRun_push_line(word a1, word a2, word a3, u64 a4, u
     store64(a2 + 8u, w325);
     store64(a2, w442);
     if (w511 - w325 <= 1u) {
-        if (std_alloc_vec_Vec_grow_amortized4(a2, 2u) == 0u) {
+        if (std_alloc_vec_Vec_grow_amortized3(a2, 2u) == 0u) {
             n216 = 1u;
             return n216;
         }
@@ -39189,7 +39813,7 @@ static u32 checker_run_WatchedRun_push_line(word a1, word a2, word a3, u64 a4, u
     if (load8(a3 + 8u)) {
         const u64 w985 = load64(a3 + 24u);
         if (w511 - w326 <= 15u) {
-            if (std_alloc_vec_Vec_grow_amortized4(a2, 16u) == 0u) {
+            if (std_alloc_vec_Vec_grow_amortized3(a2, 16u) == 0u) {
                 n216 = 1u;
                 return n216;
             }
@@ -39220,7 +39844,7 @@ static u32 checker_run_WatchedRun_push_line(word a1, word a2, word a3, u64 a4, u
         w511 = load64(p420);
         u64 w327 = load64(p285);
         if (w511 - w327 <= 8u) {
-            if (std_alloc_vec_Vec_grow_amortized4(a2, 9u) == 0u) {
+            if (std_alloc_vec_Vec_grow_amortized3(a2, 9u) == 0u) {
                 return n216;
             }
             w511 = load64(a2 + 16u);
@@ -39248,7 +39872,7 @@ static u32 checker_run_WatchedRun_push_line(word a1, word a2, word a3, u64 a4, u
         const u64 w923 = itoa_integer_write_unsigned(w805 == 0u ? 18446744073709551615ull : w805, frame + 8u);
         const u64 w366 = 40u - w923;
         if (w511 - w73 < w366) {
-            if (std_alloc_vec_Vec_grow_amortized4(a2, w366) == 0u) {
+            if (std_alloc_vec_Vec_grow_amortized3(a2, w366) == 0u) {
                 return n216;
             }
             w511 = load64(a2 + 16u);
@@ -39263,7 +39887,7 @@ static u32 checker_run_WatchedRun_push_line(word a1, word a2, word a3, u64 a4, u
         store64(a2 + 8u, w152);
         store64(a2, w442);
         if (w511 - w152 <= 1u) {
-            if (std_alloc_vec_Vec_grow_amortized4(a2, 2u) == 0u) {
+            if (std_alloc_vec_Vec_grow_amortized3(a2, 2u) == 0u) {
                 return n216;
             }
             w511 = load64(a2 + 16u);
@@ -39286,7 +39910,7 @@ static u32 checker_run_WatchedRun_push_line(word a1, word a2, word a3, u64 a4, u
     const u64 w885 = table64(p697 + TABLES + 8416u);
     const u64 w746 = table64(p697 + TABLES + 8056u);
     if (w511 - w326 < w746) {
-        if (std_alloc_vec_Vec_grow_amortized4(a2, w746) == 0u) {
+        if (std_alloc_vec_Vec_grow_amortized3(a2, w746) == 0u) {
             n216 = 1u;
             return n216;
         }
@@ -39341,7 +39965,7 @@ static u32 checker_run_WatchedRun_push_line(word a1, word a2, word a3, u64 a4, u
         w512 = load64(a2 + 16u);
         u64 w327 = load64(a2 + 8u);
         if (w512 - w327 <= 11u) {
-            if (std_alloc_vec_Vec_grow_amortized4(a2, 12u) == 0u) {
+            if (std_alloc_vec_Vec_grow_amortized3(a2, 12u) == 0u) {
                 return n216;
             }
             w512 = load64(a2 + 16u);
@@ -39368,7 +39992,7 @@ static u32 checker_run_WatchedRun_push_line(word a1, word a2, word a3, u64 a4, u
         const u64 w319 = itoa_integer_write_unsigned(w170, frame + 8u);
         const u64 w94 = 40u - w319;
         if (w512 - w328 < w94) {
-            if (std_alloc_vec_Vec_grow_amortized4(a2, w94) == 0u) {
+            if (std_alloc_vec_Vec_grow_amortized3(a2, w94) == 0u) {
                 return n216;
             }
             w328 = load64(a2 + 8u);
@@ -39383,7 +40007,7 @@ static u32 checker_run_WatchedRun_push_line(word a1, word a2, word a3, u64 a4, u
         store64(a2 + 8u, w329);
         store64(a2, w443);
         if (w512 - w329 <= 5u) {
-            if (std_alloc_vec_Vec_grow_amortized4(a2, 6u) == 0u) {
+            if (std_alloc_vec_Vec_grow_amortized3(a2, 6u) == 0u) {
                 return n216;
             }
             w329 = load64(a2 + 8u);
@@ -39413,7 +40037,7 @@ static u32 checker_run_WatchedRun_push_line(word a1, word a2, word a3, u64 a4, u
         w512 = load64(a2 + 16u);
         u64 w327 = load64(a2 + 8u);
         if (w512 - w327 < w94) {
-            if (std_alloc_vec_Vec_grow_amortized4(a2, w94) == 0u) {
+            if (std_alloc_vec_Vec_grow_amortized3(a2, w94) == 0u) {
                 return n216;
             }
             w327 = load64(a2 + 8u);
@@ -39430,7 +40054,7 @@ static u32 checker_run_WatchedRun_push_line(word a1, word a2, word a3, u64 a4, u
     }
     if (a6 >= 2u) {
         if (w512 - w277 <= 1u) {
-            if (std_alloc_vec_Vec_grow_amortized4(a2, 2u) == 0u) {
+            if (std_alloc_vec_Vec_grow_amortized3(a2, 2u) == 0u) {
                 return n216;
             }
             w277 = load64(a2 + 8u);
@@ -39455,7 +40079,7 @@ static u32 checker_run_WatchedRun_push_line(word a1, word a2, word a3, u64 a4, u
         const u64 w106 = itoa_integer_write_unsigned(a6, frame + 8u);
         const u64 w731 = 40u - w106;
         if (w512 - w327 < w731) {
-            if (std_alloc_vec_Vec_grow_amortized4(a2, w731) == 0u) {
+            if (std_alloc_vec_Vec_grow_amortized3(a2, w731) == 0u) {
                 return n216;
             }
             w327 = load64(a2 + 8u);
@@ -39470,7 +40094,7 @@ static u32 checker_run_WatchedRun_push_line(word a1, word a2, word a3, u64 a4, u
         store64(a2 + 8u, w328);
         store64(a2, w443);
         if (w512 - w328 <= 6u) {
-            if (std_alloc_vec_Vec_grow_amortized4(a2, 7u) == 0u) {
+            if (std_alloc_vec_Vec_grow_amortized3(a2, 7u) == 0u) {
                 return n216;
             }
             w328 = load64(a2 + 8u);
@@ -39492,7 +40116,7 @@ static u32 checker_run_WatchedRun_push_line(word a1, word a2, word a3, u64 a4, u
         store64(a2 + 8u, w277);
     }
     if (w277 == w512) {
-        if (std_alloc_vec_Vec_grow_amortized4(a2, 1u) == 0u) {
+        if (std_alloc_vec_Vec_grow_amortized3(a2, 1u) == 0u) {
             return n216;
         }
         w277 = load64(a2 + 8u);
@@ -39510,7 +40134,7 @@ static u32 checker_run_WatchedRun_push_line(word a1, word a2, word a3, u64 a4, u
 
 /* ---- The crate trac_c ---- */
 
-#if UNITS & 0x4
+#if UNITS & 0x8
 
 /* Makes a form of a name, the codes of a body and a pointer in the machine at a place: */
 INTERNAL u32 engine_define(word machine, u64 name, u64 name_len, u64 codes, u64 codes_len, u64 pointer) {
@@ -40262,11 +40886,11 @@ static INLINE u64 engine_find_form(word machine, u64 name, u64 name_len) {
 }
 #endif
 
-#if UNITS & 0x40
+#if UNITS & 0x20
 
 /* Runs a script as `trac_engine_run` does, and puts the lines on what is suspicious in it to the front of `to`, as
  * `trac_trace --warn` prints them: */
-INTERNAL void engine_check(word result, u64 block, u64 cells, u64 steps, u64 script, u64 script_len, u64 memory, u64
+static void engine_check(word result, u64 block, u64 cells, u64 steps, u64 script, u64 script_len, u64 memory, u64
     units, u64 to, u64 to_len) {
     u64 room[126];
     const word frame = (word)room;
@@ -40390,7 +41014,7 @@ INTERNAL void engine_check(word result, u64 block, u64 cells, u64 steps, u64 scr
                                     u64 w428 = load64(frame + 440u);
                                     u64 w963 = load64(frame + 432u);
                                     if (w428 - w963 < w257) {
-                                        if (std_alloc_vec_Vec_grow_amortized4(frame + 424u, w257) == 0u)
+                                        if (std_alloc_vec_Vec_grow_amortized3(frame + 424u, w257) == 0u)
                                             break;
                                         w963 = load64(frame + 432u);
                                         w428 = load64(frame + 440u);
@@ -40428,7 +41052,7 @@ INTERNAL void engine_check(word result, u64 block, u64 cells, u64 steps, u64 scr
                                     store64(frame + 432u, w54);
                                     store64(frame + 440u, w428);
                                     if (w428 - w54 <= 1u) {
-                                        if (std_alloc_vec_Vec_grow_amortized4(frame + 424u, 2u) == 0u)
+                                        if (std_alloc_vec_Vec_grow_amortized3(frame + 424u, 2u) == 0u)
                                             break;
                                         w324 = load64(frame + 424u);
                                         w428 = load64(frame + 440u);
@@ -40453,7 +41077,7 @@ INTERNAL void engine_check(word result, u64 block, u64 cells, u64 steps, u64 scr
                                     const u64 w874 = itoa_integer_write_unsigned(w267, frame + 960u);
                                     const u64 w549 = 40u - w874;
                                     if (w428 - w359 < w549) {
-                                        if (std_alloc_vec_Vec_grow_amortized4(frame + 424u, w549) == 0u)
+                                        if (std_alloc_vec_Vec_grow_amortized3(frame + 424u, w549) == 0u)
                                             break;
                                         w428 = load64(frame + 440u);
                                         w359 = load64(frame + 432u);
@@ -40467,7 +41091,7 @@ INTERNAL void engine_check(word result, u64 block, u64 cells, u64 steps, u64 scr
                                     store64(frame + 424u, w324);
                                     store64(frame + 440u, w428);
                                     if (w428 - w177 <= 12u) {
-                                        if (std_alloc_vec_Vec_grow_amortized4(frame + 424u, 13u) == 0u)
+                                        if (std_alloc_vec_Vec_grow_amortized3(frame + 424u, 13u) == 0u)
                                             break;
                                         w428 = load64(frame + 440u);
                                         w177 = load64(frame + 432u);
@@ -40495,7 +41119,7 @@ INTERNAL void engine_check(word result, u64 block, u64 cells, u64 steps, u64 scr
                                     const u64 w818 = itoa_integer_write_unsigned(p127, frame + 960u);
                                     const u64 w980 = 40u - w818;
                                     if (w428 - w85 < w980) {
-                                        if (std_alloc_vec_Vec_grow_amortized4(frame + 424u, w980) == 0u)
+                                        if (std_alloc_vec_Vec_grow_amortized3(frame + 424u, w980) == 0u)
                                             break;
                                         w428 = load64(frame + 440u);
                                         w85 = load64(frame + 432u);
@@ -40509,7 +41133,7 @@ INTERNAL void engine_check(word result, u64 block, u64 cells, u64 steps, u64 scr
                                     store64(frame + 424u, w324);
                                     store64(frame + 440u, w428);
                                     if (w428 - w178 <= 6u) {
-                                        if (std_alloc_vec_Vec_grow_amortized4(frame + 424u, 7u) == 0u)
+                                        if (std_alloc_vec_Vec_grow_amortized3(frame + 424u, 7u) == 0u)
                                             break;
                                         w428 = load64(frame + 440u);
                                         w178 = load64(frame + 432u);
@@ -41134,7 +41758,7 @@ L383:;
 }
 #endif
 
-#if UNITS & 0x11
+#if UNITS & 0x3
 
 /* trac_c::devices::OverflowSinkSink::put_all. */
 INTERNAL u32 c_devices_OverflowSinkSink_put_all(word self, word text) {
@@ -41190,7 +41814,7 @@ INTERNAL u32 c_devices_OverflowSinkSink_put_all(word self, word text) {
 }
 #endif
 
-#if UNITS & 0x19
+#if UNITS & 0x17
 
 /* Puts the characters of a text to a place of a buffer, as far as that reaches, and gives how many it put. */
 static INLINE u64 c_filling_put_characters(word text, u64 place, word room_, u64 room_len) {
@@ -41366,7 +41990,7 @@ static u64 c_forms_lay_named(word machine, u64 from, u64 room_, u64 room_len) {
 }
 #endif
 
-#if UNITS & 0x10
+#if UNITS & 0x2
 
 /* Puts the display of a form from a place on to the front of a buffer, as much as fits, and gives how long it is
  * from there on. */
@@ -41439,10 +42063,13 @@ INTERNAL u64 c_forms_lay_shown(word form, u64 from, u64 room_, u64 room_len) {
 }
 
 /* How many functions there are. */
-INTERNAL u64 engine_function_count(void) {
+static u64 engine_function_count(void) {
     rattle_export_trac_engine_cell_size();
     return 28u;
 }
+#endif
+
+#if UNITS & 0x10
 
 /* A fact of function `k`, from 0, as a number. */
 INTERNAL u32 engine_function_fact(u64 k, u32 which) {
@@ -41626,378 +42253,384 @@ INTERNAL void engine_answer(word result, word machine, u64 value, u64 value_len,
     const word frame = (word)room;
     u64 w68 = 0u;
     u32 n40;
-    u32 n75;
     u32 n91;
-    u32 n62;
-    u64 w971;
-    u32 n245;
-    u32 n216;
-    u32 n217;
-    do {
-        do {
-            if (how <= 2u) {
-                if (load8(machine + 84u) != 1u) {
-                    core_machine_answering_unknown_call(frame, machine, load32(machine + 60u));
-                    if (load8(frame) == 1u) {
-                        w68 = load64(machine + 72u);
-                        if (load64(machine + 64u) == w68) {
-                            store16(machine + 84u, 769u);
-                            n40 = load32(machine + 80u);
-                            n75 = 4u;
-                            n91 = n75;
-                            store64(frame + 24u, 0u);
-                            store64(frame + 16u, 0u);
-                            store64(frame + 8u, 0u);
-                            store64(result + 8u, w68);
-                            store32(result + 4u, n40);
-                            store32(result, n91);
-                            store64(result + 16u, load64(frame + 8u));
-                            store64(result + 24u, load64(frame + 16u));
-                            store64(result + 32u, load64(frame + 24u));
-                            return;
-                        }
-                        n62 = 2u;
-                        const u32 n558 = load32(machine + 24u);
-                        const u32 n246 = load32(machine + 20u);
-                        const u32 n403 = load32(machine + 16u);
-                        u32 n310 = n403 + n246;
-                        const u32 n92 = n310 + n558;
-                        w971 = (u64)(load32(machine + 8u) - n92) + 1u;
-                        if (value_len > w971) {
-                            n245 = n246;
-                            n216 = 0u;
-                            n217 = 1u;
-                            goto L114;
-                        }
-                        word p521 = load_word(machine);
-                        n245 = load32(frame + 4u);
-                        u32 n218 = load8(((word)(n245 + n403) << 3) + p521 + 1u) == 0u;
-                        switch (how - 1u) {
-                        case 0:
-                        {
-                            n218 = 1u;
-                            break;
-                        }
-                        case 1:
-                        {
-                            n218 = 0u;
-                            break;
-                        }
-                        }
-                        store32(machine + 24u, n558 - 1u);
-                        u32 n247;
-                        u32 n404;
-                        do {
-                            if (load32(machine + 28u) - n92 + 1u < value_len) {
-                                const u32 n449 = space_space_Space_try_reserve_without_index(machine, value_len);
-                                n247 = load32(machine + 20u);
-                                const u32 n405 = load32(machine + 16u);
-                                n404 = n405;
-                                if (n449 == 0u)
-                                    break;
-                                n310 = n247 + n405;
-                                p521 = load_word(machine);
-                            }
-                            const word p441 = (value == 0u ? 4096u : 0u) + (word)value;
-                            const word p896 = ((word)n310 << 3) + p521;
-                            if (value_len <= 7u) {
-                                if (value_len != 0u) {
-                                    const u32 n43 = load8(p441);
-                                    store32(p896 + 4u, 0u);
-                                    store8(p896 + 1u, n43);
-                                    store8(p896, 0u);
-                                    if (value_len != 1u) {
-                                        const u32 n505 = load8(p441 + 1u);
-                                        store32(p896 + 12u, 0u);
-                                        store8(p896 + 9u, n505);
-                                        store8(p896 + 8u, 0u);
-                                        if (value_len != 2u) {
-                                            const u32 n866 = load8(p441 + 2u);
-                                            store32(p896 + 20u, 0u);
-                                            store8(p896 + 17u, n866);
-                                            store8(p896 + 16u, 0u);
-                                            if (value_len != 3u) {
-                                                const u32 n94 = load8(p441 + 3u);
-                                                store32(p896 + 28u, 0u);
-                                                store8(p896 + 25u, n94);
-                                                store8(p896 + 24u, 0u);
-                                                if (value_len != 4u) {
-                                                    const u32 n763 = load8(p441 + 4u);
-                                                    store32(p896 + 36u, 0u);
-                                                    store8(p896 + 33u, n763);
-                                                    store8(p896 + 32u, 0u);
-                                                    if (value_len != 5u) {
-                                                        const u32 n572 = load8(p441 + 5u);
-                                                        store32(p896 + 44u, 0u);
-                                                        store8(p896 + 41u, n572);
-                                                        store8(p896 + 40u, 0u);
-                                                        if (value_len != 6u) {
-                                                            const u32 n481 = load8(p441 + 6u);
-                                                            store32(p896 + 52u, 0u);
-                                                            store8(p896 + 49u, n481);
-                                                            store8(p896 + 48u, 0u);
-                                                        }
-                                                    }
-                                                }
-                                            }
-                                        }
-                                    }
-                                }
-                            } else {
-                                space_byte_writing_write_many(p896, p441, value_len);
-                            }
-                            const word p549 = machine + 20u;
-                            n247 = load32(p549) + (u32)(word)value_len;
-                            store32(p549, n247);
-                            n404 = load32(machine + 16u);
-                        } while (0);
-                        const u32 n93 = n404;
-                        const u32 n496 = n247 + n93;
-                        const u32 n559 = load32(machine + 24u);
-                        n216 = n559 + n496;
-                        if (n218) {
-                            const u32 n546 = n247 - n246;
-                            const u32 n976 = load32(machine + 28u) - (n559 + n546);
-                            const word p528 = n976;
-                            const word p36 = n496;
-                            const word p163 = n93 + n246;
-                            u64 w699 = (u64)p36 - p163;
-                            const word p522 = load_word(machine);
-                            do {
-                                if (n496 <= n976) {
-                                    if (w699 <= 24u) {
-                                        if (w699 >= 17u) {
-                                            word p368 = ((p528 + p36) << 3) - (p163 << 3) + p522 - 64u;
-                                            word p239 = (p36 << 3) + p522 - 64u;
-                                            do {
-                                                const u64 w36 = load64(p239);
-                                                const u64 w293 = load64(p239 + 8u);
-                                                const u64 w14 = load64(p239 + 16u);
-                                                const u64 w321 = load64(p239 + 24u);
-                                                const u64 w97 = load64(p239 + 32u);
-                                                const u64 w720 = load64(p239 + 40u);
-                                                const u64 w569 = load64(p239 + 48u);
-                                                store64(p368 + 56u, load64(p239 + 56u));
-                                                store64(p368 + 48u, w569);
-                                                store64(p368 + 40u, w720);
-                                                store64(p368 + 32u, w97);
-                                                store64(p368 + 24u, w321);
-                                                store64(p368 + 16u, w14);
-                                                store64(p368 + 8u, w293);
-                                                store64(p368, w36);
-                                                p239 = p239 - 64u;
-                                                p368 = p368 - 64u;
-                                                w699 = w699 - 8u;
-                                            } while (w699 > 8u);
-                                            const word p768 = (p163 << 3) + p522;
-                                            const u64 w149 = load64(p768);
-                                            const u64 w986 = load64(p768 + 8u);
-                                            const u64 w58 = load64(p768 + 16u);
-                                            const u64 w74 = load64(p768 + 24u);
-                                            const u64 w481 = load64(p768 + 32u);
-                                            const u64 w480 = load64(p768 + 40u);
-                                            const u64 w736 = load64(p768 + 48u);
-                                            const word p887 = (p528 << 3) + p522;
-                                            store64(p887 + 56u, load64(p768 + 56u));
-                                            store64(p887 + 48u, w736);
-                                            store64(p887 + 40u, w480);
-                                            store64(p887 + 32u, w481);
-                                            store64(p887 + 24u, w74);
-                                            store64(p887 + 16u, w58);
-                                            store64(p887 + 8u, w986);
-                                            store64(p887, w149);
-                                            break;
-                                        }
-                                        if (w699 >= 8u) {
-                                            const word p768 = (p163 << 3) + p522;
-                                            const u64 w149 = load64(p768);
-                                            const u64 w986 = load64(p768 + 8u);
-                                            const u64 w58 = load64(p768 + 16u);
-                                            const u64 w74 = load64(p768 + 24u);
-                                            const u64 w481 = load64(p768 + 32u);
-                                            const u64 w480 = load64(p768 + 40u);
-                                            const u64 w736 = load64(p768 + 48u);
-                                            const word p887 = (p528 << 3) + p522;
-                                            store64(p887 + 56u, load64(p768 + 56u));
-                                            store64(p887 + 48u, w736);
-                                            store64(p887 + 40u, w480);
-                                            store64(p887 + 32u, w481);
-                                            store64(p887 + 24u, w74);
-                                            store64(p887 + 16u, w58);
-                                            store64(p887 + 8u, w986);
-                                            store64(p887, w149);
-                                            const word p239 = (p36 << 3) + p522 - 64u;
-                                            const u64 w783 = load64(p239);
-                                            const u64 w421 = load64(p239 + 8u);
-                                            const u64 w222 = load64(p239 + 16u);
-                                            const u64 w180 = load64(p239 + 24u);
-                                            const u64 w428 = load64(p239 + 32u);
-                                            const u64 w368 = load64(p239 + 40u);
-                                            const u64 w504 = load64(p239 + 48u);
-                                            const word p826 = ((p528 + (word)w699) << 3) + p522 - 64u;
-                                            store64(p826 + 56u, load64(p239 + 56u));
-                                            store64(p826 + 48u, w504);
-                                            store64(p826 + 40u, w368);
-                                            store64(p826 + 32u, w428);
-                                            store64(p826 + 24u, w180);
-                                            store64(p826 + 16u, w222);
-                                            store64(p826 + 8u, w421);
-                                            store64(p826, w783);
-                                            break;
-                                        }
-                                        if (w699 >= 4u) {
-                                            const word p768 = (p163 << 3) + p522;
-                                            const u64 w149 = load64(p768);
-                                            const u64 w986 = load64(p768 + 8u);
-                                            const u64 w58 = load64(p768 + 16u);
-                                            const word p887 = (p528 << 3) + p522;
-                                            store64(p887 + 24u, load64(p768 + 24u));
-                                            store64(p887 + 16u, w58);
-                                            store64(p887 + 8u, w986);
-                                            store64(p887, w149);
-                                            const word p904 = (p36 << 3) + p522 - 32u;
-                                            const u64 w239 = load64(p904);
-                                            const u64 w430 = load64(p904 + 8u);
-                                            const u64 w269 = load64(p904 + 16u);
-                                            const word p376 = ((p528 + (word)w699) << 3) + p522 - 32u;
-                                            store64(p376 + 24u, load64(p904 + 24u));
-                                            store64(p376 + 16u, w269);
-                                            store64(p376 + 8u, w430);
-                                            store64(p376, w239);
-                                            break;
-                                        }
-                                        if (w699 >= 2u) {
-                                            const word p768 = (p163 << 3) + p522;
-                                            const u64 w149 = load64(p768);
-                                            const word p887 = (p528 << 3) + p522;
-                                            store64(p887 + 8u, load64(p768 + 8u));
-                                            store64(p887, w149);
-                                            const word p615 = (p36 << 3) + p522 - 16u;
-                                            const u64 w871 = load64(p615);
-                                            const word p821 = ((p528 + (word)w699) << 3) + p522 - 16u;
-                                            store64(p821 + 8u, load64(p615 + 8u));
-                                            store64(p821, w871);
-                                            break;
-                                        }
-                                        if (w699 != 1u)
-                                            break;
-                                        store64((p528 << 3) + p522, load64((p163 << 3) + p522));
-                                        break;
-                                    }
-                                }
-                                if (w699 == 1u) {
-                                    const word p887 = (p528 << 3) + p522;
-                                    const word p768 = (p163 << 3) + p522;
-                                    store16(p887, load16(p768));
-                                    store32(p887 + 4u, load32(p768 + 4u));
-                                } else {
-                                    if (w699 - 25u >= 18446744073709551599ull) {
-                                        if ((u64)p528 + 8u <= p163) {
-                                            if (w699 >= 9u) {
-                                                word p768 = (p163 << 3) + p522;
-                                                word p887 = (p528 << 3) + p522;
-                                                u64 w353 = w699;
-                                                do {
-                                                    const u64 w36 = load64(p768);
-                                                    const u64 w293 = load64(p768 + 8u);
-                                                    const u64 w14 = load64(p768 + 16u);
-                                                    const u64 w321 = load64(p768 + 24u);
-                                                    const u64 w97 = load64(p768 + 32u);
-                                                    const u64 w720 = load64(p768 + 40u);
-                                                    const u64 w569 = load64(p768 + 48u);
-                                                    store64(p887 + 56u, load64(p768 + 56u));
-                                                    store64(p887 + 48u, w569);
-                                                    store64(p887 + 40u, w720);
-                                                    store64(p887 + 32u, w97);
-                                                    store64(p887 + 24u, w321);
-                                                    store64(p887 + 16u, w14);
-                                                    store64(p887 + 8u, w293);
-                                                    store64(p887, w36);
-                                                    p768 = p768 + 64u;
-                                                    p887 = p887 + 64u;
-                                                    w353 = w353 - 8u;
-                                                } while (w353 > 8u);
-                                            }
-                                            const word p239 = (p36 << 3) + p522 - 64u;
-                                            const u64 w783 = load64(p239);
-                                            const u64 w421 = load64(p239 + 8u);
-                                            const u64 w222 = load64(p239 + 16u);
-                                            const u64 w180 = load64(p239 + 24u);
-                                            const u64 w428 = load64(p239 + 32u);
-                                            const u64 w368 = load64(p239 + 40u);
-                                            const u64 w504 = load64(p239 + 48u);
-                                            const word p826 = ((p528 + (word)w699) << 3) + p522 - 64u;
-                                            store64(p826 + 56u, load64(p239 + 56u));
-                                            store64(p826 + 48u, w504);
-                                            store64(p826 + 40u, w368);
-                                            store64(p826 + 32u, w428);
-                                            store64(p826 + 24u, w180);
-                                            store64(p826 + 16u, w222);
-                                            store64(p826 + 8u, w421);
-                                            store64(p826, w783);
-                                            break;
-                                        }
-                                    }
-                                    space_copies_copy_long(p522, p163, p36, p528);
-                                }
-                            } while (0);
-                            store32(machine + 20u, n246);
-                            const word p469 = machine + 24u;
-                            store32(p469, load32(p469) + n546);
-                            const word p173 = ((word)load32(machine + 16u) << 3) + load_word(machine);
-                            u32 n281 = load32(machine + 32u);
-                            u32 n94 = 0;
-                            if (n245 + 1u == n281) {
-                                const u32 n622 = load32(((word)n245 << 3) + p173 + 4u);
-                                n94 = n622 ? n281 - n622 : 0u;
-                            } else if (n281 <= n245) {
-                                n94 = n281;
-                            } else {
-                                do {
-                                    const u32 n896 = load32(((word)(n281 - 1u) << 3) + p173 + 4u);
-                                    n281 = n281 - n896;
-                                    n94 = n896 ? n281 : 0u;
-                                } while (n245 < n94);
-                            }
-                            store32(machine + 20u, n245);
-                            store32(machine + 32u, n94);
-                            break;
-                        }
-                        forms_work_Work_drop_neutral(machine, n245, n246);
-                        n245 = load32(machine + 20u);
-                        break;
-                    }
-                }
+    if (how > 2u) {
+        store64(frame + 24u, 0u);
+        store64(frame + 16u, 0u);
+        store64(frame + 8u, 0u);
+        n40 = 0u;
+        n91 = 9u;
+        store64(result + 8u, w68);
+        store32(result + 4u, n40);
+        store32(result, n91);
+        store64(result + 16u, load64(frame + 8u));
+        store64(result + 24u, load64(frame + 16u));
+        store64(result + 32u, load64(frame + 24u));
+        return;
+    }
+    if (load8(machine + 84u) == 1u) {
+        store64(frame + 24u, 0u);
+        store64(frame + 16u, 0u);
+        store64(frame + 8u, 0u);
+        n40 = 0u;
+        n91 = 9u;
+        store64(result + 8u, w68);
+        store32(result + 4u, n40);
+        store32(result, n91);
+        store64(result + 16u, load64(frame + 8u));
+        store64(result + 24u, load64(frame + 16u));
+        store64(result + 32u, load64(frame + 24u));
+        return;
+    }
+    core_machine_answering_unknown_call(frame, machine, load32(machine + 60u));
+    if (load8(frame) != 1u) {
+        store64(frame + 24u, 0u);
+        store64(frame + 16u, 0u);
+        store64(frame + 8u, 0u);
+        n40 = 0u;
+        n91 = 9u;
+        store64(result + 8u, w68);
+        store32(result + 4u, n40);
+        store32(result, n91);
+        store64(result + 16u, load64(frame + 8u));
+        store64(result + 24u, load64(frame + 16u));
+        store64(result + 32u, load64(frame + 24u));
+        return;
+    }
+    w68 = load64(machine + 72u);
+    u32 n75;
+    if (load64(machine + 64u) == w68) {
+        store16(machine + 84u, 769u);
+        n40 = load32(machine + 80u);
+        n75 = 4u;
+    } else {
+        u32 n62 = 2u;
+        const u32 n558 = load32(machine + 24u);
+        const u32 n245 = load32(machine + 20u);
+        const u32 n403 = load32(machine + 16u);
+        u32 n310 = n403 + n245;
+        const u32 n92 = n310 + n558;
+        const u64 w971 = (u64)(load32(machine + 8u) - n92) + 1u;
+        u32 n246;
+        u32 n216;
+        u32 n217;
+        if (value_len > w971) {
+            n246 = n245;
+            n216 = 0u;
+            n217 = 1u;
+        } else {
+            word p521 = load_word(machine);
+            n246 = load32(frame + 4u);
+            u32 n218 = load8(((word)(n246 + n403) << 3) + p521 + 1u) == 0u;
+            switch (how - 1u) {
+            case 0:
+            {
+                n218 = 1u;
+                break;
             }
-            store64(frame + 24u, 0u);
-            store64(frame + 16u, 0u);
-            store64(frame + 8u, 0u);
-            n40 = 0u;
-            n91 = 9u;
-            store64(result + 8u, w68);
-            store32(result + 4u, n40);
-            store32(result, n91);
-            store64(result + 16u, load64(frame + 8u));
-            store64(result + 24u, load64(frame + 16u));
-            store64(result + 32u, load64(frame + 24u));
-            return;
-        } while (0);
-        n62 = 0u;
-        n217 = 0u;
-    } while (0);
-L114:;
-    store32(machine + 60u, n245);
-    store8(machine + 85u, n62);
-    store8(machine + 84u, n217);
-    const word p177 = machine + 72u;
-    const u32 n901 = value_len <= w971;
-    w68 = n901 + load64(p177);
-    store64(p177, w68);
-    const word p61 = machine + 80u;
-    const u32 n41 = load32(p61);
-    n40 = n901 ? (n216 > n41 ? n216 : n41) : n41;
-    store32(p61, n40);
-    n75 = n901 ? 0u : (n62 | 1u);
+            case 1:
+            {
+                n218 = 0u;
+                break;
+            }
+            }
+            store32(machine + 24u, n558 - 1u);
+            u32 n247;
+            u32 n404;
+            do {
+                if (load32(machine + 28u) - n92 + 1u < value_len) {
+                    const u32 n449 = space_space_Space_try_reserve_without_index(machine, value_len);
+                    n247 = load32(machine + 20u);
+                    const u32 n405 = load32(machine + 16u);
+                    n404 = n405;
+                    if (n449 == 0u)
+                        break;
+                    n310 = n247 + n405;
+                    p521 = load_word(machine);
+                }
+                const word p441 = (value == 0u ? 4096u : 0u) + (word)value;
+                const word p896 = ((word)n310 << 3) + p521;
+                if (value_len <= 7u) {
+                    if (value_len != 0u) {
+                        const u32 n43 = load8(p441);
+                        store32(p896 + 4u, 0u);
+                        store8(p896 + 1u, n43);
+                        store8(p896, 0u);
+                        if (value_len != 1u) {
+                            const u32 n505 = load8(p441 + 1u);
+                            store32(p896 + 12u, 0u);
+                            store8(p896 + 9u, n505);
+                            store8(p896 + 8u, 0u);
+                            if (value_len != 2u) {
+                                const u32 n866 = load8(p441 + 2u);
+                                store32(p896 + 20u, 0u);
+                                store8(p896 + 17u, n866);
+                                store8(p896 + 16u, 0u);
+                                if (value_len != 3u) {
+                                    const u32 n94 = load8(p441 + 3u);
+                                    store32(p896 + 28u, 0u);
+                                    store8(p896 + 25u, n94);
+                                    store8(p896 + 24u, 0u);
+                                    if (value_len != 4u) {
+                                        const u32 n763 = load8(p441 + 4u);
+                                        store32(p896 + 36u, 0u);
+                                        store8(p896 + 33u, n763);
+                                        store8(p896 + 32u, 0u);
+                                        if (value_len != 5u) {
+                                            const u32 n572 = load8(p441 + 5u);
+                                            store32(p896 + 44u, 0u);
+                                            store8(p896 + 41u, n572);
+                                            store8(p896 + 40u, 0u);
+                                            if (value_len != 6u) {
+                                                const u32 n481 = load8(p441 + 6u);
+                                                store32(p896 + 52u, 0u);
+                                                store8(p896 + 49u, n481);
+                                                store8(p896 + 48u, 0u);
+                                            }
+                                        }
+                                    }
+                                }
+                            }
+                        }
+                    }
+                } else {
+                    space_byte_writing_write_many(p896, p441, value_len);
+                }
+                const word p549 = machine + 20u;
+                n247 = load32(p549) + (u32)(word)value_len;
+                store32(p549, n247);
+                n404 = load32(machine + 16u);
+            } while (0);
+            const u32 n93 = n404;
+            const u32 n496 = n247 + n93;
+            const u32 n559 = load32(machine + 24u);
+            n216 = n559 + n496;
+            if (n218) {
+                const u32 n546 = n247 - n245;
+                const u32 n976 = load32(machine + 28u) - (n559 + n546);
+                const word p528 = n976;
+                const word p36 = n496;
+                const word p163 = n93 + n245;
+                u64 w699 = (u64)p36 - p163;
+                const word p522 = load_word(machine);
+                do {
+                    if (n496 <= n976) {
+                        if (w699 <= 24u) {
+                            if (w699 >= 17u) {
+                                word p368 = ((p528 + p36) << 3) - (p163 << 3) + p522 - 64u;
+                                word p239 = (p36 << 3) + p522 - 64u;
+                                do {
+                                    const u64 w36 = load64(p239);
+                                    const u64 w293 = load64(p239 + 8u);
+                                    const u64 w14 = load64(p239 + 16u);
+                                    const u64 w321 = load64(p239 + 24u);
+                                    const u64 w97 = load64(p239 + 32u);
+                                    const u64 w720 = load64(p239 + 40u);
+                                    const u64 w569 = load64(p239 + 48u);
+                                    store64(p368 + 56u, load64(p239 + 56u));
+                                    store64(p368 + 48u, w569);
+                                    store64(p368 + 40u, w720);
+                                    store64(p368 + 32u, w97);
+                                    store64(p368 + 24u, w321);
+                                    store64(p368 + 16u, w14);
+                                    store64(p368 + 8u, w293);
+                                    store64(p368, w36);
+                                    p239 = p239 - 64u;
+                                    p368 = p368 - 64u;
+                                    w699 = w699 - 8u;
+                                } while (w699 > 8u);
+                                const word p768 = (p163 << 3) + p522;
+                                const u64 w149 = load64(p768);
+                                const u64 w986 = load64(p768 + 8u);
+                                const u64 w58 = load64(p768 + 16u);
+                                const u64 w74 = load64(p768 + 24u);
+                                const u64 w481 = load64(p768 + 32u);
+                                const u64 w480 = load64(p768 + 40u);
+                                const u64 w736 = load64(p768 + 48u);
+                                const word p887 = (p528 << 3) + p522;
+                                store64(p887 + 56u, load64(p768 + 56u));
+                                store64(p887 + 48u, w736);
+                                store64(p887 + 40u, w480);
+                                store64(p887 + 32u, w481);
+                                store64(p887 + 24u, w74);
+                                store64(p887 + 16u, w58);
+                                store64(p887 + 8u, w986);
+                                store64(p887, w149);
+                                break;
+                            }
+                            if (w699 >= 8u) {
+                                const word p768 = (p163 << 3) + p522;
+                                const u64 w149 = load64(p768);
+                                const u64 w986 = load64(p768 + 8u);
+                                const u64 w58 = load64(p768 + 16u);
+                                const u64 w74 = load64(p768 + 24u);
+                                const u64 w481 = load64(p768 + 32u);
+                                const u64 w480 = load64(p768 + 40u);
+                                const u64 w736 = load64(p768 + 48u);
+                                const word p887 = (p528 << 3) + p522;
+                                store64(p887 + 56u, load64(p768 + 56u));
+                                store64(p887 + 48u, w736);
+                                store64(p887 + 40u, w480);
+                                store64(p887 + 32u, w481);
+                                store64(p887 + 24u, w74);
+                                store64(p887 + 16u, w58);
+                                store64(p887 + 8u, w986);
+                                store64(p887, w149);
+                                const word p239 = (p36 << 3) + p522 - 64u;
+                                const u64 w783 = load64(p239);
+                                const u64 w421 = load64(p239 + 8u);
+                                const u64 w222 = load64(p239 + 16u);
+                                const u64 w180 = load64(p239 + 24u);
+                                const u64 w428 = load64(p239 + 32u);
+                                const u64 w368 = load64(p239 + 40u);
+                                const u64 w504 = load64(p239 + 48u);
+                                const word p826 = ((p528 + (word)w699) << 3) + p522 - 64u;
+                                store64(p826 + 56u, load64(p239 + 56u));
+                                store64(p826 + 48u, w504);
+                                store64(p826 + 40u, w368);
+                                store64(p826 + 32u, w428);
+                                store64(p826 + 24u, w180);
+                                store64(p826 + 16u, w222);
+                                store64(p826 + 8u, w421);
+                                store64(p826, w783);
+                                break;
+                            }
+                            if (w699 >= 4u) {
+                                const word p768 = (p163 << 3) + p522;
+                                const u64 w149 = load64(p768);
+                                const u64 w986 = load64(p768 + 8u);
+                                const u64 w58 = load64(p768 + 16u);
+                                const word p887 = (p528 << 3) + p522;
+                                store64(p887 + 24u, load64(p768 + 24u));
+                                store64(p887 + 16u, w58);
+                                store64(p887 + 8u, w986);
+                                store64(p887, w149);
+                                const word p904 = (p36 << 3) + p522 - 32u;
+                                const u64 w239 = load64(p904);
+                                const u64 w430 = load64(p904 + 8u);
+                                const u64 w269 = load64(p904 + 16u);
+                                const word p376 = ((p528 + (word)w699) << 3) + p522 - 32u;
+                                store64(p376 + 24u, load64(p904 + 24u));
+                                store64(p376 + 16u, w269);
+                                store64(p376 + 8u, w430);
+                                store64(p376, w239);
+                                break;
+                            }
+                            if (w699 >= 2u) {
+                                const word p768 = (p163 << 3) + p522;
+                                const u64 w149 = load64(p768);
+                                const word p887 = (p528 << 3) + p522;
+                                store64(p887 + 8u, load64(p768 + 8u));
+                                store64(p887, w149);
+                                const word p615 = (p36 << 3) + p522 - 16u;
+                                const u64 w871 = load64(p615);
+                                const word p821 = ((p528 + (word)w699) << 3) + p522 - 16u;
+                                store64(p821 + 8u, load64(p615 + 8u));
+                                store64(p821, w871);
+                                break;
+                            }
+                            if (w699 != 1u)
+                                break;
+                            store64((p528 << 3) + p522, load64((p163 << 3) + p522));
+                            break;
+                        }
+                    }
+                    if (w699 == 1u) {
+                        const word p887 = (p528 << 3) + p522;
+                        const word p768 = (p163 << 3) + p522;
+                        store16(p887, load16(p768));
+                        store32(p887 + 4u, load32(p768 + 4u));
+                    } else {
+                        if (w699 - 25u >= 18446744073709551599ull) {
+                            if ((u64)p528 + 8u <= p163) {
+                                if (w699 >= 9u) {
+                                    word p768 = (p163 << 3) + p522;
+                                    word p887 = (p528 << 3) + p522;
+                                    u64 w353 = w699;
+                                    do {
+                                        const u64 w36 = load64(p768);
+                                        const u64 w293 = load64(p768 + 8u);
+                                        const u64 w14 = load64(p768 + 16u);
+                                        const u64 w321 = load64(p768 + 24u);
+                                        const u64 w97 = load64(p768 + 32u);
+                                        const u64 w720 = load64(p768 + 40u);
+                                        const u64 w569 = load64(p768 + 48u);
+                                        store64(p887 + 56u, load64(p768 + 56u));
+                                        store64(p887 + 48u, w569);
+                                        store64(p887 + 40u, w720);
+                                        store64(p887 + 32u, w97);
+                                        store64(p887 + 24u, w321);
+                                        store64(p887 + 16u, w14);
+                                        store64(p887 + 8u, w293);
+                                        store64(p887, w36);
+                                        p768 = p768 + 64u;
+                                        p887 = p887 + 64u;
+                                        w353 = w353 - 8u;
+                                    } while (w353 > 8u);
+                                }
+                                const word p239 = (p36 << 3) + p522 - 64u;
+                                const u64 w783 = load64(p239);
+                                const u64 w421 = load64(p239 + 8u);
+                                const u64 w222 = load64(p239 + 16u);
+                                const u64 w180 = load64(p239 + 24u);
+                                const u64 w428 = load64(p239 + 32u);
+                                const u64 w368 = load64(p239 + 40u);
+                                const u64 w504 = load64(p239 + 48u);
+                                const word p826 = ((p528 + (word)w699) << 3) + p522 - 64u;
+                                store64(p826 + 56u, load64(p239 + 56u));
+                                store64(p826 + 48u, w504);
+                                store64(p826 + 40u, w368);
+                                store64(p826 + 32u, w428);
+                                store64(p826 + 24u, w180);
+                                store64(p826 + 16u, w222);
+                                store64(p826 + 8u, w421);
+                                store64(p826, w783);
+                                break;
+                            }
+                        }
+                        space_copies_copy_long(p522, p163, p36, p528);
+                    }
+                } while (0);
+                store32(machine + 20u, n245);
+                const word p469 = machine + 24u;
+                store32(p469, load32(p469) + n546);
+                const word p173 = ((word)load32(machine + 16u) << 3) + load_word(machine);
+                u32 n281 = load32(machine + 32u);
+                u32 n94 = 0;
+                if (n246 + 1u == n281) {
+                    const u32 n622 = load32(((word)n246 << 3) + p173 + 4u);
+                    n94 = n622 ? n281 - n622 : 0u;
+                } else if (n281 <= n246) {
+                    n94 = n281;
+                } else {
+                    do {
+                        const u32 n896 = load32(((word)(n281 - 1u) << 3) + p173 + 4u);
+                        n281 = n281 - n896;
+                        n94 = n896 ? n281 : 0u;
+                    } while (n246 < n94);
+                }
+                store32(machine + 20u, n246);
+                store32(machine + 32u, n94);
+            } else {
+                forms_work_Work_drop_neutral(machine, n246, n245);
+                n246 = load32(machine + 20u);
+            }
+            n62 = 0u;
+            n217 = 0u;
+        }
+        store32(machine + 60u, n246);
+        store8(machine + 85u, n62);
+        store8(machine + 84u, n217);
+        const word p177 = machine + 72u;
+        const u32 n901 = value_len <= w971;
+        w68 = n901 + load64(p177);
+        store64(p177, w68);
+        const word p61 = machine + 80u;
+        const u32 n41 = load32(p61);
+        n40 = n901 ? (n216 > n41 ? n216 : n41) : n41;
+        store32(p61, n40);
+        n75 = n901 ? 0u : (n62 | 1u);
+    }
     n91 = n75;
     store64(frame + 24u, 0u);
     store64(frame + 16u, 0u);
@@ -42011,11 +42644,11 @@ L114:;
 }
 #endif
 
-#if UNITS & 0x2
+#if UNITS & 0x10
 
 /* Gives the length of the image of the forms and the meta character of the machine at a place, in bytes; as much of
  * the image as fits goes to the front of `to`. */
-static u64 engine_save(word machine, u64 to, u64 to_len) {
+INTERNAL u64 engine_save(word machine, u64 to, u64 to_len) {
     const word p981 = (to == 0u ? 4096u : 0u) + (word)to;
     word p310;
     word p764;
@@ -42660,10 +43293,10 @@ static u64 engine_save(word machine, u64 to, u64 to_len) {
 }
 #endif
 
-#if UNITS & 0x10
+#if UNITS & 0x2
 
 /* Takes an image into the machine at a place: */
-INTERNAL u32 engine_load(word machine, u64 image, u64 image_len) {
+static u32 engine_load(word machine, u64 image, u64 image_len) {
     u64 room[22];
     const word frame = (word)room;
     u32 n216 = 0u;
@@ -43419,19 +44052,16 @@ INTERNAL u32 engine_load(word machine, u64 image, u64 image_len) {
 }
 
 /* The bytes that a machine takes. */
-INTERNAL u64 engine_machine_size(void) {
+static u64 engine_machine_size(void) {
     rattle_export_trac_engine_cell_size();
     return 88u;
 }
 
 /* The bytes that a cell takes: */
-INTERNAL u64 engine_cell_size(void) {
+static u64 engine_cell_size(void) {
     rattle_export_trac_engine_cell_size();
     return 8u;
 }
-#endif
-
-#if UNITS & 0x2
 
 /* Makes a machine at a place, over a block of `cells` cells that is its own from then on, which may make `steps`
  * steps. */
@@ -43534,9 +44164,12 @@ static INLINE u32 engine_take_peak(word machine) {
     store32(p61, 0u);
     return n40;
 }
+#endif
+
+#if UNITS & 0x8
 
 /* Has the machine at a place keep in mind where form `k` begins, from 0, in the order of definition: */
-static void engine_turn_to_form(word machine, u64 k) {
+INTERNAL void engine_turn_to_form(word machine, u64 k) {
     u64 room[2];
     const word frame = (word)room;
     if (k <= 4294967295u) {
@@ -43545,7 +44178,7 @@ static void engine_turn_to_form(word machine, u64 k) {
 }
 #endif
 
-#if UNITS & 0x10
+#if UNITS & 0x4
 
 /* Has the machine at a place make its next step, which prints, and drops what it prints: */
 INTERNAL void engine_skip_print(word result, word machine) {
@@ -43637,6 +44270,9 @@ INTERNAL void engine_skip_print(word result, word machine) {
     store64(result + 24u, load64(frame + 8u));
     store64(result + 32u, load64(frame + 16u));
 }
+#endif
+
+#if UNITS & 0x10
 
 /* Runs a script in a block of `cells` cells, which is the caller's again afterwards, with at most `steps` steps. */
 INTERNAL void engine_run(word result, u64 block, u64 cells, u64 steps, u64 script, u64 script_len, u64 output, u64
@@ -43735,22 +44371,22 @@ INTERNAL void engine_run(word result, u64 block, u64 cells, u64 steps, u64 scrip
 }
 #endif
 
-#if UNITS & 0x40
+#if UNITS & 0x20
 
 /* Has the machine at a place make a step as a turn does, and puts what is shown of it to the front of `lines`: */
-INTERNAL void engine_trace_step(word result, word machine, word trace, u64 input, u64 input_len, u64 output, u64
+static void engine_trace_step(word result, word machine, word trace, u64 input, u64 input_len, u64 output, u64
     output_len, u32 ended, u64 memory, u64 units, u64 lines, u64 lines_len) {
     u64 room[68];
     const word frame = (word)room;
     u32 n91 = 0u;
     word p68 = 0u;
     u32 n391;
-    word p177;
     u64 w178;
     u64 w68;
     u32 n54;
     u64 w69;
     u64 w70;
+    word p177;
     u64 w291;
     u32 n40;
     u32 n216;
@@ -43775,195 +44411,230 @@ INTERNAL void engine_trace_step(word result, word machine, word trace, u64 input
                     const u32 n392 = load32(p94);
                     n391 = n392 < n41 ? n41 : n392;
                     store32(p94, n391);
-                    if (units >= 256u) {
-                        const u64 w254 = units < 1152921504606846976ull ? ((units << 4) & 18446744073709547520ull) -
-                            64u : 18446744073709551551ull;
-                        if (w254 <= 4611686018427387904ull) {
-                            const word p624 = (word)w254 & 15u;
-                            const u64 w539 = (p624 == 0u ? 0u : (u64)16u - p624) + w254;
-                            u64 w26;
-                            if (w539 <= 4095u) {
-                                w26 = (u64)1u << (((u64)64u - clz64(w539 + 63u)) & 63u);
-                            } else {
-                                const u64 w662 = w539 + 64u;
-                                const word p341 = (word)w662 & 4095u;
-                                w26 = (p341 == 0u ? 0u : (u64)4096u - p341) + w662;
-                            }
-                            const u64 w353 = w26;
-                            const u64 w742 = w353 - 16u;
-                            if ((w742 & 9223372036854775823ull) == 0u) {
-                                if ((w742 >> 4) <= units) {
-                                    const u64 w368 = w353 - 64u;
-                                    const u64 w521 = w368 + memory;
-                                    store64((word)w521 + 40u, w368);
-                                    store64((word)w521 + 32u, w368);
-                                    store64((word)w521 + 24u, 0u);
-                                    store64((word)w521 + 16u, 16u);
-                                    store64((word)w521 + 8u, w742);
-                                    store64((word)w521, memory);
-                                    store64(frame + 16u, 0u);
-                                    store64(frame + 24u, 0u);
-                                    store64(frame + 32u, 0u);
-                                    store64(frame + 56u, 0u);
-                                    store64(frame + 48u, 1u);
-                                    store64(frame + 64u, 0u);
-                                    store64(frame + 72u, 0u);
-                                    store64(frame + 40u, w521);
-                                    store64(frame + 136u, 0u);
-                                    store64(frame + 128u, 0u);
-                                    store64(frame + 120u, 0u);
-                                    store64(frame + 112u, 0u);
-                                    store64(frame + 104u, 0u);
-                                    store64(frame + 96u, 0u);
-                                    store64(frame + 88u, 0u);
-                                    store64(frame + 80u, 0u);
-                                    const u32 n219 = load32(trace + 28u);
-                                    const u32 n270 = n219 != 0u;
-                                    const u32 n101 = load32(trace + 24u);
-                                    const u32 n505 = n101 != 0u;
-                                    const u32 n500 = load32(trace + 20u);
-                                    const u32 n780 = load32(trace + 16u);
-                                    const u64 w600 = load64(trace + 8u);
-                                    const u64 w643 = load64(trace);
-                                    u64 w77 = 1u;
-                                    u64 w78 = 1u;
-                                    u64 w79 = 1u;
-                                    u64 w80 = 1u;
-                                    if (load32(trace + 52u)) {
-                                        w80 = load64(trace + 88u);
-                                        w79 = load64(trace + 80u);
-                                        w78 = load64(trace + 72u);
-                                        w77 = load64(trace + 64u);
-                                    }
-                                    store32(frame + 186u, 0u);
-                                    store8(frame + 185u, n270);
-                                    store8(frame + 184u, n505);
-                                    store32(frame + 180u, n500);
-                                    store32(frame + 176u, n780);
-                                    store64(frame + 168u, 0u);
-                                    store16(frame + 190u, 0u);
-                                    store64(frame + 200u, 0u);
-                                    store64(frame + 208u, 0u);
-                                    const u32 n393 = load32(trace + 48u);
-                                    const u64 w951 = load64(trace + 56u);
-                                    store64(frame + 144u, frame + 16u);
-                                    store64(frame + 192u, frame + 540u);
-                                    store64(frame + 224u, frame + 540u);
-                                    store64(frame + 216u, frame + 16u);
-                                    store64(frame + 152u, w643);
-                                    store64(frame + 160u, w600);
-                                    store64(frame + 240u, 0u);
-                                    store64(frame + 232u, 0u);
-                                    store64(frame + 256u, 0u);
-                                    store64(frame + 264u, 0u);
-                                    store64(frame + 280u, 0u);
-                                    store64(frame + 288u, 0u);
-                                    store64(frame + 312u, 0u);
-                                    store64(frame + 320u, 0u);
-                                    store64(frame + 336u, w77);
-                                    store64(frame + 344u, w78);
-                                    store64(frame + 352u, w79);
-                                    store64(frame + 360u, w80);
-                                    store64(frame + 368u, w951);
-                                    store32(frame + 376u, n393);
-                                    store32(frame + 380u, 0u);
-                                    store64(frame + 248u, frame + 16u);
-                                    store64(frame + 272u, frame + 540u);
-                                    store64(frame + 296u, frame + 16u);
-                                    store64(frame + 304u, frame + 540u);
-                                    store64(frame + 328u, frame + 16u);
-                                    p177 = machine + 72u;
-                                    const u64 w299 = load64(p177) + 1u;
-                                    const u64 w251 = w299 == 0u ? 18446744073709551615ull : w299;
-                                    n265 = ((u32)(w251 <= w600) & (w643 <= w251)) & ((n219 | n101) != 0u);
-                                    n93 = 0u;
-                                    n218 = 0u;
-                                    p69 = 0u;
-                                    p70 = 0u;
-                                    n310 = core_machine_Machine_next_rule(machine) & 255u;
-                                    u32 n62;
-                                    switch (n310 - 2u) {
-                                    default:
-                                        goto L655;
-                                    case 5:
-                                    {
-                                        store8(frame + 498u, 0u);
-                                        store16(frame + 496u, 0u);
-                                        core_machine_Machine_next_function(frame + 496u, machine);
-                                        n62 = 1u;
-                                        if (load8(frame + 496u) != 1u)
-                                            goto L94;
-                                        const u32 n713 = load8(frame + 497u);
-                                        if (n713 - 2u < 23u)
-                                            goto L94;
-                                        if (n713 - 1u)
-                                            goto L622;
-                                        n62 = 2u;
-                                        goto L622;
-                                    }
-                                    case 0:
-                                    {
-                                        const u32 n558 = load32(machine + 24u);
-                                        if (n558 == 0u)
-                                            goto L28;
-                                        const word p521 = load_word(machine);
-                                        const u32 n928 = load32(machine + 28u);
-                                        const u32 n286 = n928 - n558;
-                                        if (load8(((word)n286 << 3) + p521 + 1u) != 40u)
-                                            goto L28;
-                                        const word p49 = n286 + 1u;
-                                        core_runs_matching(frame + 8u, (p49 << 3) + p521, (u64)n928 - p49);
-                                        n93 = 0u;
-                                        n18 = load8(frame + 8u) == 1u ? 0u : n558;
-                                        goto L576;
-                                    }
-                                L622:;
-                                    {
-                                        n93 = n62;
-                                        goto L602;
-                                    }
-                                L94:;
-                                    {
-                                        if (n265 == 0u)
-                                            break;
-                                    } /* fall through */
-                                L602:;
-                                    {
-                                        const u32 n281 = load32(machine + 32u);
-                                        if (n281) {
-                                            const u32 n980 = n281 - 1u;
-                                            if (load32(machine + 20u) > n980) {
-                                                const word p349 = ((word)(load32(machine + 16u) + n980) << 3) +
-                                                    load_word(machine);
-                                                p69 = (word)(load8(p349) == 1u ? load8(p349 + 1u) : 0u) & 255u;
-                                            }
-                                            p70 = n980;
-                                            p68 = 1u;
-                                            n218 = 1u;
-                                            n91 = 0u;
-                                            goto L655;
-                                        }
-                                        break;
-                                    }
-                                    }
-                                    n18 = 0u;
-                                    break;
-                                }
-                            }
-                        }
+                    if (units < 256u) {
+                        w178 = load64(machine + 72u);
+                        w68 = 0u;
+                        n54 = 10u;
+                        w69 = 0u;
+                        w70 = 0u;
+                        store64(result + 32u, w70);
+                        store64(result + 24u, w69);
+                        store64(result + 16u, w68);
+                        store64(result + 8u, w178);
+                        store32(result + 4u, n391);
+                        store32(result, n54);
+                        return;
                     }
-                    w178 = load64(machine + 72u);
-                    w68 = 0u;
-                    n54 = 10u;
-                    w69 = 0u;
-                    w70 = 0u;
-                    store64(result + 32u, w70);
-                    store64(result + 24u, w69);
-                    store64(result + 16u, w68);
-                    store64(result + 8u, w178);
-                    store32(result + 4u, n391);
-                    store32(result, n54);
-                    return;
+                    const u64 w254 = units < 1152921504606846976ull ? ((units << 4) & 18446744073709547520ull) - 64u
+                        : 18446744073709551551ull;
+                    if (w254 > 4611686018427387904ull) {
+                        w178 = load64(machine + 72u);
+                        w68 = 0u;
+                        n54 = 10u;
+                        w69 = 0u;
+                        w70 = 0u;
+                        store64(result + 32u, w70);
+                        store64(result + 24u, w69);
+                        store64(result + 16u, w68);
+                        store64(result + 8u, w178);
+                        store32(result + 4u, n391);
+                        store32(result, n54);
+                        return;
+                    }
+                    const word p624 = (word)w254 & 15u;
+                    const u64 w539 = (p624 == 0u ? 0u : (u64)16u - p624) + w254;
+                    u64 w26;
+                    if (w539 <= 4095u) {
+                        w26 = (u64)1u << (((u64)64u - clz64(w539 + 63u)) & 63u);
+                    } else {
+                        const u64 w662 = w539 + 64u;
+                        const word p341 = (word)w662 & 4095u;
+                        w26 = (p341 == 0u ? 0u : (u64)4096u - p341) + w662;
+                    }
+                    const u64 w353 = w26;
+                    const u64 w742 = w353 - 16u;
+                    if ((w742 & 9223372036854775823ull) != 0u) {
+                        w178 = load64(machine + 72u);
+                        w68 = 0u;
+                        n54 = 10u;
+                        w69 = 0u;
+                        w70 = 0u;
+                        store64(result + 32u, w70);
+                        store64(result + 24u, w69);
+                        store64(result + 16u, w68);
+                        store64(result + 8u, w178);
+                        store32(result + 4u, n391);
+                        store32(result, n54);
+                        return;
+                    }
+                    if ((w742 >> 4) > units) {
+                        w178 = load64(machine + 72u);
+                        w68 = 0u;
+                        n54 = 10u;
+                        w69 = 0u;
+                        w70 = 0u;
+                        store64(result + 32u, w70);
+                        store64(result + 24u, w69);
+                        store64(result + 16u, w68);
+                        store64(result + 8u, w178);
+                        store32(result + 4u, n391);
+                        store32(result, n54);
+                        return;
+                    }
+                    const u64 w368 = w353 - 64u;
+                    const u64 w521 = w368 + memory;
+                    store64((word)w521 + 40u, w368);
+                    store64((word)w521 + 32u, w368);
+                    store64((word)w521 + 24u, 0u);
+                    store64((word)w521 + 16u, 16u);
+                    store64((word)w521 + 8u, w742);
+                    store64((word)w521, memory);
+                    store64(frame + 16u, 0u);
+                    store64(frame + 24u, 0u);
+                    store64(frame + 32u, 0u);
+                    store64(frame + 56u, 0u);
+                    store64(frame + 48u, 1u);
+                    store64(frame + 64u, 0u);
+                    store64(frame + 72u, 0u);
+                    store64(frame + 40u, w521);
+                    store64(frame + 136u, 0u);
+                    store64(frame + 128u, 0u);
+                    store64(frame + 120u, 0u);
+                    store64(frame + 112u, 0u);
+                    store64(frame + 104u, 0u);
+                    store64(frame + 96u, 0u);
+                    store64(frame + 88u, 0u);
+                    store64(frame + 80u, 0u);
+                    const u32 n219 = load32(trace + 28u);
+                    const u32 n270 = n219 != 0u;
+                    const u32 n101 = load32(trace + 24u);
+                    const u32 n505 = n101 != 0u;
+                    const u32 n500 = load32(trace + 20u);
+                    const u32 n780 = load32(trace + 16u);
+                    const u64 w600 = load64(trace + 8u);
+                    const u64 w643 = load64(trace);
+                    u64 w77 = 1u;
+                    u64 w78 = 1u;
+                    u64 w79 = 1u;
+                    u64 w80 = 1u;
+                    if (load32(trace + 52u)) {
+                        w80 = load64(trace + 88u);
+                        w79 = load64(trace + 80u);
+                        w78 = load64(trace + 72u);
+                        w77 = load64(trace + 64u);
+                    }
+                    store32(frame + 186u, 0u);
+                    store8(frame + 185u, n270);
+                    store8(frame + 184u, n505);
+                    store32(frame + 180u, n500);
+                    store32(frame + 176u, n780);
+                    store64(frame + 168u, 0u);
+                    store16(frame + 190u, 0u);
+                    store64(frame + 200u, 0u);
+                    store64(frame + 208u, 0u);
+                    const u32 n393 = load32(trace + 48u);
+                    const u64 w951 = load64(trace + 56u);
+                    store64(frame + 144u, frame + 16u);
+                    store64(frame + 192u, frame + 540u);
+                    store64(frame + 224u, frame + 540u);
+                    store64(frame + 216u, frame + 16u);
+                    store64(frame + 152u, w643);
+                    store64(frame + 160u, w600);
+                    store64(frame + 240u, 0u);
+                    store64(frame + 232u, 0u);
+                    store64(frame + 256u, 0u);
+                    store64(frame + 264u, 0u);
+                    store64(frame + 280u, 0u);
+                    store64(frame + 288u, 0u);
+                    store64(frame + 312u, 0u);
+                    store64(frame + 320u, 0u);
+                    store64(frame + 336u, w77);
+                    store64(frame + 344u, w78);
+                    store64(frame + 352u, w79);
+                    store64(frame + 360u, w80);
+                    store64(frame + 368u, w951);
+                    store32(frame + 376u, n393);
+                    store32(frame + 380u, 0u);
+                    store64(frame + 248u, frame + 16u);
+                    store64(frame + 272u, frame + 540u);
+                    store64(frame + 296u, frame + 16u);
+                    store64(frame + 304u, frame + 540u);
+                    store64(frame + 328u, frame + 16u);
+                    p177 = machine + 72u;
+                    const u64 w299 = load64(p177) + 1u;
+                    const u64 w251 = w299 == 0u ? 18446744073709551615ull : w299;
+                    n265 = ((u32)(w251 <= w600) & (w643 <= w251)) & ((n219 | n101) != 0u);
+                    n93 = 0u;
+                    n218 = 0u;
+                    p69 = 0u;
+                    p70 = 0u;
+                    n310 = core_machine_Machine_next_rule(machine) & 255u;
+                    u32 n62;
+                    switch (n310 - 2u) {
+                    default:
+                        goto L655;
+                    case 5:
+                    {
+                        store8(frame + 498u, 0u);
+                        store16(frame + 496u, 0u);
+                        core_machine_Machine_next_function(frame + 496u, machine);
+                        n62 = 1u;
+                        if (load8(frame + 496u) != 1u)
+                            goto L94;
+                        const u32 n713 = load8(frame + 497u);
+                        if (n713 - 2u < 23u)
+                            goto L94;
+                        if (n713 - 1u)
+                            goto L622;
+                        n62 = 2u;
+                        goto L622;
+                    }
+                    case 0:
+                    {
+                        const u32 n558 = load32(machine + 24u);
+                        if (n558 == 0u)
+                            goto L28;
+                        const word p521 = load_word(machine);
+                        const u32 n928 = load32(machine + 28u);
+                        const u32 n286 = n928 - n558;
+                        if (load8(((word)n286 << 3) + p521 + 1u) != 40u)
+                            goto L28;
+                        const word p49 = n286 + 1u;
+                        core_runs_matching(frame + 8u, (p49 << 3) + p521, (u64)n928 - p49);
+                        n93 = 0u;
+                        n18 = load8(frame + 8u) == 1u ? 0u : n558;
+                        goto L576;
+                    }
+                L622:;
+                    {
+                        n93 = n62;
+                        goto L602;
+                    }
+                L94:;
+                    {
+                        if (n265 == 0u)
+                            break;
+                    } /* fall through */
+                L602:;
+                    {
+                        const u32 n281 = load32(machine + 32u);
+                        if (n281) {
+                            const u32 n980 = n281 - 1u;
+                            if (load32(machine + 20u) > n980) {
+                                const word p349 = ((word)(load32(machine + 16u) + n980) << 3) + load_word(machine);
+                                p69 = (word)(load8(p349) == 1u ? load8(p349 + 1u) : 0u) & 255u;
+                            }
+                            p70 = n980;
+                            p68 = 1u;
+                            n218 = 1u;
+                            n91 = 0u;
+                            goto L655;
+                        }
+                        break;
+                    }
+                    }
+                    n18 = 0u;
+                    break;
                 }
             L28:;
                 n93 = 0u;
@@ -44533,7 +45204,7 @@ L438:;
                 const u64 w665 = load64(p890 + TABLES + 9248u);
                 u64 w441 = load64(frame + 208u);
                 if (w441 - w742 < w665) {
-                    if (std_alloc_vec_Vec_grow_amortized4(frame + 192u, w665) == 0u)
+                    if (std_alloc_vec_Vec_grow_amortized3(frame + 192u, w665) == 0u)
                         break;
                     w441 = load64(frame + 208u);
                     w742 = load64(frame + 200u);
@@ -44571,7 +45242,7 @@ L438:;
                 store64(frame + 200u, w524);
                 store64(frame + 208u, w441);
                 if (w441 - w524 <= 1u) {
-                    if (std_alloc_vec_Vec_grow_amortized4(frame + 192u, 2u) == 0u)
+                    if (std_alloc_vec_Vec_grow_amortized3(frame + 192u, 2u) == 0u)
                         break;
                     w224 = load64(frame + 192u);
                     w524 = load64(frame + 200u);
@@ -44595,7 +45266,7 @@ L438:;
                 const u64 w788 = itoa_integer_write_unsigned(w548, frame + 496u);
                 const u64 w54 = 40u - w788;
                 if (w441 - w359 < w54) {
-                    if (std_alloc_vec_Vec_grow_amortized4(frame + 192u, w54) == 0u)
+                    if (std_alloc_vec_Vec_grow_amortized3(frame + 192u, w54) == 0u)
                         break;
                     w224 = load64(frame + 192u);
                     w441 = load64(frame + 208u);
@@ -44609,7 +45280,7 @@ L438:;
                 store64(frame + 192u, w224);
                 store64(frame + 208u, w441);
                 if (w441 - w163 <= 12u) {
-                    if (std_alloc_vec_Vec_grow_amortized4(frame + 192u, 13u) == 0u)
+                    if (std_alloc_vec_Vec_grow_amortized3(frame + 192u, 13u) == 0u)
                         break;
                     w224 = load64(frame + 192u);
                     w441 = load64(frame + 208u);
@@ -44636,7 +45307,7 @@ L438:;
                 const u64 w135 = itoa_integer_write_unsigned(n391, frame + 496u);
                 const u64 w544 = 40u - w135;
                 if (w441 - w85 < w544) {
-                    if (std_alloc_vec_Vec_grow_amortized4(frame + 192u, w544) == 0u)
+                    if (std_alloc_vec_Vec_grow_amortized3(frame + 192u, w544) == 0u)
                         break;
                     w224 = load64(frame + 192u);
                     w441 = load64(frame + 208u);
@@ -44650,7 +45321,7 @@ L438:;
                 store64(frame + 192u, w224);
                 store64(frame + 208u, w441);
                 if (w441 - w403 <= 6u) {
-                    if (std_alloc_vec_Vec_grow_amortized4(frame + 192u, 7u) == 0u)
+                    if (std_alloc_vec_Vec_grow_amortized3(frame + 192u, 7u) == 0u)
                         break;
                     w224 = load64(frame + 192u);
                     w441 = load64(frame + 208u);
@@ -46357,12 +47028,9 @@ static u64 engine_form_name(word machine, u64 k, u64 to, u64 to_len) {
     store8(p526, n216);
     return w61;
 }
-#endif
-
-#if UNITS & 0x10
 
 /* The length of the display of form `k`, as `pf` prints it: */
-INTERNAL u64 engine_form_text(word machine, u64 k, u64 to, u64 to_len) {
+static u64 engine_form_text(word machine, u64 k, u64 to, u64 to_len) {
     u64 room[6];
     const word frame = (word)room;
     u64 w68 = 0u;
@@ -46380,7 +47048,7 @@ INTERNAL u64 engine_form_text(word machine, u64 k, u64 to, u64 to_len) {
 }
 
 /* How many items the body of form `k` has. */
-INTERNAL u64 engine_form_codes(word machine, u64 k, u64 to, u64 to_len) {
+static u64 engine_form_codes(word machine, u64 k, u64 to, u64 to_len) {
     u64 room[6];
     const word frame = (word)room;
     word p68 = 0u;
@@ -46441,7 +47109,7 @@ INTERNAL u64 engine_form_codes(word machine, u64 k, u64 to, u64 to_len) {
 }
 
 /* How many items of form `k` stand in front of its pointer, 0 if there is no such form. */
-INTERNAL u64 engine_form_pointer(word machine, u64 k) {
+static u64 engine_form_pointer(word machine, u64 k) {
     u64 room[6];
     const word frame = (word)room;
     word p68;
@@ -46458,9 +47126,6 @@ INTERNAL u64 engine_form_pointer(word machine, u64 k) {
     }
     return p68;
 }
-#endif
-
-#if UNITS & 0x2
 
 /* How many codes the neutral string has from place `from` on; they go to the front of `to`, as many as fit: */
 static INLINE u64 engine_neutral_part(word machine, u64 from, u64 to, u64 to_len) {
@@ -46990,7 +47655,7 @@ static INLINE u32 engine_meta(word machine) {
 }
 #endif
 
-#if UNITS & 0x10
+#if UNITS & 0x4
 
 /* What the next step reads: */
 INTERNAL u32 engine_awaits(word machine) {
@@ -47112,7 +47777,7 @@ INTERNAL void engine_run_zeroed(word result, u64 block, u64 cells, u64 steps, u6
 
 /* ---- What the compiler makes and takes from its own libraries ---- */
 
-#if UNITS & 0x17
+#if UNITS & 0xb
 
 /* __ashlti3: numbers of 128 bits, which WebAssembly lacks. */
 static INLINE void ashlti3(word a1, u64 a2, u64 a3, u32 a4) {
@@ -47133,7 +47798,7 @@ static INLINE void ashlti3(word a1, u64 a2, u64 a3, u32 a4) {
 }
 #endif
 
-#if UNITS & 0x20
+#if UNITS & 0x40
 
 /* bumpalo::bump::Bump::alloc_layout_slow: of a library of the compiler. */
 INTERNAL void bumpalo_bump_Bump_alloc_layout_slow(word a1, word a2, u64 a3, word a4) {
@@ -47588,7 +48253,7 @@ static void core_alloc_RefAllocator_grow2(word a1, word a2, u64 a3, u64 a4, u64 
 }
 #endif
 
-#if UNITS & 0x10
+#if UNITS & 0x2
 
 /* core::cmp::slices::groups_equal: of a library of the compiler. */
 static u32 core_cmp_slices_groups_equal(word a1, u64 a2, word a3) {
@@ -48085,7 +48750,7 @@ static u32 core_cmp_slices_groups_equal(word a1, u64 a2, word a3) {
 }
 #endif
 
-#if UNITS & 0x40
+#if UNITS & 0x20
 
 /* core::slice::edits::mirror: of a library of the compiler. */
 static INLINE void core_slice_edits_mirror(word a1, word a2, u64 a3) {
@@ -48114,7 +48779,7 @@ static INLINE void core_slice_edits_mirror(word a1, word a2, u64 a3) {
 }
 #endif
 
-#if UNITS & 0xc0
+#if UNITS & 0xa0
 
 /* core::slice::edits::mirror, for other types: of a library of the compiler. */
 static INLINE void core_slice_edits_mirror2(word a1, word a2, u64 a3) {
@@ -48180,7 +48845,7 @@ static INLINE void core_slice_edits_mirror3(word a1, word a2, u64 a3) {
 }
 #endif
 
-#if UNITS & 0x3
+#if UNITS & 0x11
 
 /* core::slice::reads::slice+T::contains: of a library of the compiler. */
 INTERNAL u32 core_slice_reads_slice_T_contains(word a1, u64 a2, word a3) {
@@ -48502,7 +49167,7 @@ INTERNAL u32 core_slice_reads_slice_T_contains(word a1, u64 a2, word a3) {
 }
 #endif
 
-#if UNITS & 0x10
+#if UNITS & 0x2
 
 /* trac_image::body::ImageBody::of: of a library of the compiler. */
 static void image_body_ImageBody_of(word a1, u64 a2, u64 a3) {
@@ -48555,7 +49220,7 @@ static void image_body_ImageBody_of(word a1, u64 a2, u64 a3) {
 }
 #endif
 
-#if UNITS & 0x5
+#if UNITS & 0x9
 
 /* itoa::Buffer::format: of a library of the compiler. */
 static INLINE void itoa_Buffer_format(word a1, u64 a2, u64 a3) {
@@ -48604,12 +49269,9 @@ static INLINE void itoa_Buffer_format(word a1, u64 a2, u64 a3) {
     store64(a1 + 8u, 40u - w10);
     store64(a1, w10 + a2);
 }
-#endif
-
-#if UNITS & 0x11
 
 /* itoa::Buffer::format, for other types: of a library of the compiler. */
-INTERNAL void itoa_Buffer_format2(word a1, u64 a2, u64 a3, u64 a4) {
+static void itoa_Buffer_format2(word a1, u64 a2, u64 a3, u64 a4) {
     u64 room[6];
     const word frame = (word)room;
     const u32 n402 = (i64)a4 < 0;
@@ -48715,7 +49377,7 @@ INTERNAL void itoa_Buffer_format2(word a1, u64 a2, u64 a3, u64 a4) {
 }
 #endif
 
-#if UNITS & 0xd5
+#if UNITS & 0xbb
 
 /* itoa::integer::write_unsigned: of a library of the compiler. */
 static INLINE u64 itoa_integer_write_unsigned(u64 a1, word a2) {
@@ -48758,7 +49420,7 @@ static INLINE u64 itoa_integer_write_unsigned(u64 a1, word a2) {
 }
 #endif
 
-#if UNITS & 0x17
+#if UNITS & 0xb
 
 /* __lshrti3: numbers of 128 bits, which WebAssembly lacks. */
 static INLINE void lshrti3(word a1, u64 a2, u64 a3, u32 a4) {
@@ -48793,14 +49455,14 @@ static INLINE void multi3(word a1, u64 a2, u64 a3, u64 a4, u64 a5) {
 }
 #endif
 
-#if UNITS & 0x10
+#if UNITS & 0x2
 
 /* rattle::export_trac_engine_cell_size: of a library of the compiler. */
 static INLINE void rattle_export_trac_engine_cell_size(void) {
 }
 #endif
 
-#if UNITS & 0x20
+#if UNITS & 0x80
 
 /* std_alloc::compared::VecOrd::cmp: of a library of the compiler. */
 static INLINE u32 std_alloc_compared_VecOrd_cmp(word a1, word a2) {
@@ -48874,9 +49536,6 @@ static INLINE u32 std_alloc_compared_VecOrd_cmp(word a1, word a2) {
     }
     return w322 == w39 ? 1u : (w39 < w322 ? 0u : 2u);
 }
-#endif
-
-#if UNITS & 0x80
 
 /* std_alloc::vec::Vec::drop: of a library of the compiler. */
 static INLINE void std_alloc_vec_Vec_drop(word a1) {
@@ -48972,9 +49631,12 @@ static INLINE void std_alloc_vec_Vec_drop3(word a1) {
         store64(p469, load64(p469) - 1u);
     }
 }
+#endif
+
+#if UNITS & 0x40
 
 /* std_alloc::vec::Vec::grow_amortized: of a library of the compiler. */
-static u32 std_alloc_vec_Vec_grow_amortized(word a1) {
+INTERNAL u32 std_alloc_vec_Vec_grow_amortized(word a1) {
     u64 room[4];
     const word frame = (word)room;
     u32 n216 = 0u;
@@ -49275,12 +49937,308 @@ static u32 std_alloc_vec_Vec_grow_amortized(word a1) {
     n216 = 1u;
     return n216;
 }
+
+/* std_alloc::vec::Vec::grow_amortized, for other types: of a library of the compiler. */
+INTERNAL u32 std_alloc_vec_Vec_grow_amortized2(word a1) {
+    u64 room[4];
+    const word frame = (word)room;
+    u32 n216 = 0u;
+    u64 w68 = 0u;
+    const u64 w39 = load64(a1 + 8u);
+    if (w39 == 18446744073709551615ull) {
+        return n216;
+    }
+    const u64 w46 = (w39 > 3u ? w39 : 3u) + 1u;
+    const u64 w537 = load64(a1 + 16u);
+    const u64 w962 = w537 << 1;
+    const u64 w367 = w962 < w46 ? w46 : w962;
+    const u64 w945 = w537 < 4611686018427387904ull ? w367 : w46;
+    if (w945 > 115292150460684697ull) {
+        return n216;
+    }
+    u64 w353;
+    if (w537 != 0u) {
+        const u64 w996 = load64(a1);
+        const word p773 = load_word(a1 + 24u);
+        const u64 w219 = load64(p773 + 32u);
+        u32 n375;
+        u64 w416;
+        do {
+            u64 w257;
+            {
+                word p354;
+                u64 w48;
+                do {
+                    const u64 w199 = w945 - w537;
+                    if (w199 >= w39) {
+                        if (w219 == 1u) {
+                            p354 = load_word(p773 + 24u);
+                            w48 = load64(p354 + 32u);
+                            const u64 w856 = w199 * 80u;
+                            if (w856 <= w48) {
+                                const u64 w36 = load64(p354);
+                                if (w36 + w48 == w996) {
+                                    const u64 w149 = w48 - w856;
+                                    store64(p354 + 32u, w149);
+                                    w353 = w36 + w149;
+                                    const u64 w909 = w39 * 80u;
+                                    if (w353 - w996 < w909) {
+                                        if (w39 == 0u) {
+                                            store64(a1, w353);
+                                            store64(a1 + 16u, w945);
+                                            n216 = 1u;
+                                            return n216;
+                                        }
+                                        u64 w84 = (word)w39 & 3u;
+                                        const word p36 = (word)w36;
+                                        const word p353 = (word)w48;
+                                        word p68;
+                                        if (w39 >= 4u) {
+                                            const u64 w27 = 0u - (w39 & 18446744073709551612ull);
+                                            word p355 = (word)w353;
+                                            word p667 = (word)w996;
+                                            do {
+                                                copy(p355, p667, 80u);
+                                                copy(p355 + 80u, p667 + 80u, 80u);
+                                                copy(p355 + 160u, p667 + 160u, 80u);
+                                                copy(p355 + 240u, p667 + 240u, 80u);
+                                                p355 = p355 + 320u;
+                                                p667 = p667 + 320u;
+                                                w68 = w68 - 4u;
+                                            } while (w27 != w68);
+                                            if (w84 == 0u) {
+                                                store64(a1, w353);
+                                                store64(a1 + 16u, w945);
+                                                n216 = 1u;
+                                                return n216;
+                                            }
+                                            p68 = 0u - (word)w68;
+                                        } else {
+                                            p68 = 0u;
+                                        }
+                                        const word p236 = p68 * 80u;
+                                        word p181 = p236 + p353 + (word)w537 * 80u - (word)w945 * 80u + p36;
+                                        word p182 = (word)w996 + p236;
+                                        do {
+                                            copy(p181, p182, 80u);
+                                            p181 = p181 + 80u;
+                                            p182 = p182 + 80u;
+                                            w84 = w84 - 1u;
+                                        } while (w84 != 0u);
+                                        store64(a1, w353);
+                                        store64(a1 + 16u, w945);
+                                        n216 = 1u;
+                                        return n216;
+                                    }
+                                    if (w909 == 0u) {
+                                        store64(a1, w353);
+                                        store64(a1 + 16u, w945);
+                                        n216 = 1u;
+                                        return n216;
+                                    }
+                                    copy((word)w353, (word)w996, (word)w909);
+                                    store64(a1, w353);
+                                    store64(a1 + 16u, w945);
+                                    n216 = 1u;
+                                    return n216;
+                                }
+                            }
+                            w257 = w945 * 80u;
+                            break;
+                        }
+                    }
+                    w257 = w945 * 80u;
+                    if (w219 == 0u)
+                        goto L751;
+                    p354 = load_word(p773 + 24u);
+                    w48 = load64(p354 + 32u);
+                } while (0);
+                const u64 w123 = w48 & 18446744073709551608ull;
+                if (w123 >= w257) {
+                    const u64 w436 = w123 - w257;
+                    store64(p354 + 32u, w436);
+                    n375 = 1u;
+                    w416 = load64(p354) + w436;
+                    break;
+                }
+            }
+        L751:;
+            bumpalo_bump_Bump_alloc_layout_slow(frame + 16u, p773, w257, 8u);
+            n375 = load8(frame + 16u);
+            w416 = load64(frame + 24u);
+        } while (0);
+        w353 = w416;
+        if ((n375 & 1u) == 0u) {
+            return n216;
+        }
+        const word p805 = p773 + 40u;
+        const u64 w570 = load64(p805);
+        if (w570 == 18446744073709551615ull) {
+            return n216;
+        }
+        store64(p805, w570 + 1u);
+        do {
+            const u64 w909 = w39 * 80u;
+            if (w353 - w996 < w909) {
+                if (w39 != 0u) {
+                    u64 w84 = (word)w39 & 3u;
+                    u64 w69 = 0u;
+                    if (w39 >= 4u) {
+                        const u64 w749 = w39 & 18446744073709551612ull;
+                        word p68 = 0u;
+                        do {
+                            const word p596 = p68 + (word)w353;
+                            const word p462 = (word)w996 + p68;
+                            copy(p596, p462, 80u);
+                            copy(p596 + 80u, p462 + 80u, 80u);
+                            copy(p596 + 160u, p462 + 160u, 80u);
+                            copy(p596 + 240u, p462 + 240u, 80u);
+                            p68 = p68 + 320u;
+                            w69 = w69 + 4u;
+                        } while (w69 != w749);
+                        if (w84 == 0u)
+                            break;
+                    }
+                    const word p236 = (word)w69 * 80u;
+                    word p181 = p236 + (word)w353;
+                    word p182 = (word)w996 + p236;
+                    do {
+                        copy(p181, p182, 80u);
+                        p181 = p181 + 80u;
+                        p182 = p182 + 80u;
+                        w84 = w84 - 1u;
+                    } while (w84 != 0u);
+                }
+            } else if (w909 != 0u) {
+                copy((word)w353, (word)w996, (word)w909);
+            }
+        } while (0);
+        if (load64(p773 + 32u) == 1u) {
+            const word p354 = load_word(p773 + 24u);
+            const u64 w172 = load64(p354 + 32u);
+            if (load64(p354) + w172 == w996) {
+                store64(p354 + 32u, w537 * 80u + w172);
+            }
+        }
+        const word p806 = p773 + 40u;
+        store64(p806, load64(p806) - 1u);
+    } else {
+        const u64 w25 = w367 * 80u;
+        word p773;
+        u32 n375;
+        u64 w817;
+        do {
+            p773 = load_word(a1 + 24u);
+            if (load64(p773 + 32u) != 0u) {
+                const word p354 = load_word(p773 + 24u);
+                const u64 w955 = load64(p354 + 32u) & 18446744073709551608ull;
+                if (w955 >= w25) {
+                    const u64 w642 = w955 - w25;
+                    store64(p354 + 32u, w642);
+                    n375 = 1u;
+                    w817 = load64(p354) + w642;
+                    break;
+                }
+            }
+            bumpalo_bump_Bump_alloc_layout_slow(frame, p773, w25, 8u);
+            n375 = load8(frame);
+            w817 = load64(frame + 8u);
+        } while (0);
+        w353 = w817;
+        if ((n375 & 1u) == 0u) {
+            return n216;
+        }
+        const word p805 = p773 + 40u;
+        const u64 w570 = load64(p805);
+        if (w570 == 18446744073709551615ull) {
+            return n216;
+        }
+        store64(p805, w570 + 1u);
+    }
+    store64(a1, w353);
+    store64(a1 + 16u, w945);
+    n216 = 1u;
+    return n216;
+}
 #endif
 
 #if UNITS & 0x20
 
 /* std_alloc::vec::Vec::grow_amortized, for other types: of a library of the compiler. */
-INTERNAL u32 std_alloc_vec_Vec_grow_amortized2(word a1) {
+INTERNAL u32 std_alloc_vec_Vec_grow_amortized3(word a1, u64 a2) {
+    u64 room[4];
+    const word frame = (word)room;
+    u32 n216 = 0u;
+    const u64 w39 = load64(a1 + 8u);
+    if ((w39 ^ 18446744073709551615ull) < a2) {
+        return n216;
+    }
+    const u64 w160 = a2 + w39;
+    const u64 w855 = w160 > 8u ? w160 : 8u;
+    const u64 w537 = load64(a1 + 16u);
+    const u64 w962 = w537 << 1;
+    const u64 w951 = w962 < w855 ? w855 : w962;
+    const u64 w271 = w537 < 4611686018427387904ull ? w951 : w855;
+    if ((i64)w271 < 0) {
+        return n216;
+    }
+    const word p374 = a1 + 24u;
+    u64 w68;
+    u32 n217;
+    if (w537 != 0u) {
+        core_alloc_RefAllocator_grow(frame + 16u, p374, load64(a1), w39, w537, w271);
+        w68 = load64(frame + 24u);
+        n217 = load8(frame + 16u);
+    } else {
+        word p773;
+        u32 n375;
+        u64 w387;
+        do {
+            p773 = load_word(p374);
+            if (load64(p773 + 32u) != 0u) {
+                const word p354 = load_word(p773 + 24u);
+                const u64 w394 = load64(p354 + 32u);
+                if (w394 >= w951) {
+                    const u64 w722 = w394 - w951;
+                    store64(p354 + 32u, w722);
+                    n375 = 1u;
+                    w387 = load64(p354) + w722;
+                    break;
+                }
+            }
+            bumpalo_bump_Bump_alloc_layout_slow(frame, p773, w951, 1u);
+            n375 = load8(frame);
+            w387 = load64(frame + 8u);
+        } while (0);
+        w68 = w387;
+        n217 = 1u;
+        if ((n375 & 1u) == 0u) {
+            w68 = 0u;
+        } else {
+            const word p805 = p773 + 40u;
+            const u64 w834 = load64(p805);
+            if (w834 == 18446744073709551615ull) {
+                w68 = 0u;
+            } else {
+                store64(p805, w834 + 1u);
+                n217 = 0u;
+            }
+        }
+    }
+    if (n217) {
+        return n216;
+    }
+    store64(a1 + 16u, w271);
+    store64(a1, w68);
+    n216 = 1u;
+    return n216;
+}
+#endif
+
+#if UNITS & 0x40
+
+/* std_alloc::vec::Vec::grow_amortized, for other types: of a library of the compiler. */
+static u32 std_alloc_vec_Vec_grow_amortized4(word a1) {
     u64 room[4];
     const word frame = (word)room;
     u32 n216 = 0u;
@@ -49524,306 +50482,7 @@ INTERNAL u32 std_alloc_vec_Vec_grow_amortized2(word a1) {
 }
 
 /* std_alloc::vec::Vec::grow_amortized, for other types: of a library of the compiler. */
-INTERNAL u32 std_alloc_vec_Vec_grow_amortized3(word a1) {
-    u64 room[4];
-    const word frame = (word)room;
-    u32 n216 = 0u;
-    u64 w68 = 0u;
-    const u64 w39 = load64(a1 + 8u);
-    if (w39 == 18446744073709551615ull) {
-        return n216;
-    }
-    const u64 w46 = (w39 > 3u ? w39 : 3u) + 1u;
-    const u64 w537 = load64(a1 + 16u);
-    const u64 w962 = w537 << 1;
-    const u64 w367 = w962 < w46 ? w46 : w962;
-    const u64 w945 = w537 < 4611686018427387904ull ? w367 : w46;
-    if (w945 > 115292150460684697ull) {
-        return n216;
-    }
-    u64 w353;
-    if (w537 != 0u) {
-        const u64 w996 = load64(a1);
-        const word p773 = load_word(a1 + 24u);
-        const u64 w219 = load64(p773 + 32u);
-        u32 n375;
-        u64 w416;
-        do {
-            u64 w257;
-            {
-                word p354;
-                u64 w48;
-                do {
-                    const u64 w199 = w945 - w537;
-                    if (w199 >= w39) {
-                        if (w219 == 1u) {
-                            p354 = load_word(p773 + 24u);
-                            w48 = load64(p354 + 32u);
-                            const u64 w856 = w199 * 80u;
-                            if (w856 <= w48) {
-                                const u64 w36 = load64(p354);
-                                if (w36 + w48 == w996) {
-                                    const u64 w149 = w48 - w856;
-                                    store64(p354 + 32u, w149);
-                                    w353 = w36 + w149;
-                                    const u64 w909 = w39 * 80u;
-                                    if (w353 - w996 < w909) {
-                                        if (w39 == 0u) {
-                                            store64(a1, w353);
-                                            store64(a1 + 16u, w945);
-                                            n216 = 1u;
-                                            return n216;
-                                        }
-                                        u64 w84 = (word)w39 & 3u;
-                                        const word p36 = (word)w36;
-                                        const word p353 = (word)w48;
-                                        word p68;
-                                        if (w39 >= 4u) {
-                                            const u64 w27 = 0u - (w39 & 18446744073709551612ull);
-                                            word p355 = (word)w353;
-                                            word p667 = (word)w996;
-                                            do {
-                                                copy(p355, p667, 80u);
-                                                copy(p355 + 80u, p667 + 80u, 80u);
-                                                copy(p355 + 160u, p667 + 160u, 80u);
-                                                copy(p355 + 240u, p667 + 240u, 80u);
-                                                p355 = p355 + 320u;
-                                                p667 = p667 + 320u;
-                                                w68 = w68 - 4u;
-                                            } while (w27 != w68);
-                                            if (w84 == 0u) {
-                                                store64(a1, w353);
-                                                store64(a1 + 16u, w945);
-                                                n216 = 1u;
-                                                return n216;
-                                            }
-                                            p68 = 0u - (word)w68;
-                                        } else {
-                                            p68 = 0u;
-                                        }
-                                        const word p236 = p68 * 80u;
-                                        word p181 = p236 + p353 + (word)w537 * 80u - (word)w945 * 80u + p36;
-                                        word p182 = (word)w996 + p236;
-                                        do {
-                                            copy(p181, p182, 80u);
-                                            p181 = p181 + 80u;
-                                            p182 = p182 + 80u;
-                                            w84 = w84 - 1u;
-                                        } while (w84 != 0u);
-                                        store64(a1, w353);
-                                        store64(a1 + 16u, w945);
-                                        n216 = 1u;
-                                        return n216;
-                                    }
-                                    if (w909 == 0u) {
-                                        store64(a1, w353);
-                                        store64(a1 + 16u, w945);
-                                        n216 = 1u;
-                                        return n216;
-                                    }
-                                    copy((word)w353, (word)w996, (word)w909);
-                                    store64(a1, w353);
-                                    store64(a1 + 16u, w945);
-                                    n216 = 1u;
-                                    return n216;
-                                }
-                            }
-                            w257 = w945 * 80u;
-                            break;
-                        }
-                    }
-                    w257 = w945 * 80u;
-                    if (w219 == 0u)
-                        goto L751;
-                    p354 = load_word(p773 + 24u);
-                    w48 = load64(p354 + 32u);
-                } while (0);
-                const u64 w123 = w48 & 18446744073709551608ull;
-                if (w123 >= w257) {
-                    const u64 w436 = w123 - w257;
-                    store64(p354 + 32u, w436);
-                    n375 = 1u;
-                    w416 = load64(p354) + w436;
-                    break;
-                }
-            }
-        L751:;
-            bumpalo_bump_Bump_alloc_layout_slow(frame + 16u, p773, w257, 8u);
-            n375 = load8(frame + 16u);
-            w416 = load64(frame + 24u);
-        } while (0);
-        w353 = w416;
-        if ((n375 & 1u) == 0u) {
-            return n216;
-        }
-        const word p805 = p773 + 40u;
-        const u64 w570 = load64(p805);
-        if (w570 == 18446744073709551615ull) {
-            return n216;
-        }
-        store64(p805, w570 + 1u);
-        do {
-            const u64 w909 = w39 * 80u;
-            if (w353 - w996 < w909) {
-                if (w39 != 0u) {
-                    u64 w84 = (word)w39 & 3u;
-                    u64 w69 = 0u;
-                    if (w39 >= 4u) {
-                        const u64 w749 = w39 & 18446744073709551612ull;
-                        word p68 = 0u;
-                        do {
-                            const word p596 = p68 + (word)w353;
-                            const word p462 = (word)w996 + p68;
-                            copy(p596, p462, 80u);
-                            copy(p596 + 80u, p462 + 80u, 80u);
-                            copy(p596 + 160u, p462 + 160u, 80u);
-                            copy(p596 + 240u, p462 + 240u, 80u);
-                            p68 = p68 + 320u;
-                            w69 = w69 + 4u;
-                        } while (w69 != w749);
-                        if (w84 == 0u)
-                            break;
-                    }
-                    const word p236 = (word)w69 * 80u;
-                    word p181 = p236 + (word)w353;
-                    word p182 = (word)w996 + p236;
-                    do {
-                        copy(p181, p182, 80u);
-                        p181 = p181 + 80u;
-                        p182 = p182 + 80u;
-                        w84 = w84 - 1u;
-                    } while (w84 != 0u);
-                }
-            } else if (w909 != 0u) {
-                copy((word)w353, (word)w996, (word)w909);
-            }
-        } while (0);
-        if (load64(p773 + 32u) == 1u) {
-            const word p354 = load_word(p773 + 24u);
-            const u64 w172 = load64(p354 + 32u);
-            if (load64(p354) + w172 == w996) {
-                store64(p354 + 32u, w537 * 80u + w172);
-            }
-        }
-        const word p806 = p773 + 40u;
-        store64(p806, load64(p806) - 1u);
-    } else {
-        const u64 w25 = w367 * 80u;
-        word p773;
-        u32 n375;
-        u64 w817;
-        do {
-            p773 = load_word(a1 + 24u);
-            if (load64(p773 + 32u) != 0u) {
-                const word p354 = load_word(p773 + 24u);
-                const u64 w955 = load64(p354 + 32u) & 18446744073709551608ull;
-                if (w955 >= w25) {
-                    const u64 w642 = w955 - w25;
-                    store64(p354 + 32u, w642);
-                    n375 = 1u;
-                    w817 = load64(p354) + w642;
-                    break;
-                }
-            }
-            bumpalo_bump_Bump_alloc_layout_slow(frame, p773, w25, 8u);
-            n375 = load8(frame);
-            w817 = load64(frame + 8u);
-        } while (0);
-        w353 = w817;
-        if ((n375 & 1u) == 0u) {
-            return n216;
-        }
-        const word p805 = p773 + 40u;
-        const u64 w570 = load64(p805);
-        if (w570 == 18446744073709551615ull) {
-            return n216;
-        }
-        store64(p805, w570 + 1u);
-    }
-    store64(a1, w353);
-    store64(a1 + 16u, w945);
-    n216 = 1u;
-    return n216;
-}
-#endif
-
-#if UNITS & 0x40
-
-/* std_alloc::vec::Vec::grow_amortized, for other types: of a library of the compiler. */
-INTERNAL u32 std_alloc_vec_Vec_grow_amortized4(word a1, u64 a2) {
-    u64 room[4];
-    const word frame = (word)room;
-    u32 n216 = 0u;
-    const u64 w39 = load64(a1 + 8u);
-    if ((w39 ^ 18446744073709551615ull) < a2) {
-        return n216;
-    }
-    const u64 w160 = a2 + w39;
-    const u64 w855 = w160 > 8u ? w160 : 8u;
-    const u64 w537 = load64(a1 + 16u);
-    const u64 w962 = w537 << 1;
-    const u64 w951 = w962 < w855 ? w855 : w962;
-    const u64 w271 = w537 < 4611686018427387904ull ? w951 : w855;
-    if ((i64)w271 < 0) {
-        return n216;
-    }
-    const word p374 = a1 + 24u;
-    u64 w68;
-    u32 n217;
-    if (w537 != 0u) {
-        core_alloc_RefAllocator_grow(frame + 16u, p374, load64(a1), w39, w537, w271);
-        w68 = load64(frame + 24u);
-        n217 = load8(frame + 16u);
-    } else {
-        word p773;
-        u32 n375;
-        u64 w387;
-        do {
-            p773 = load_word(p374);
-            if (load64(p773 + 32u) != 0u) {
-                const word p354 = load_word(p773 + 24u);
-                const u64 w394 = load64(p354 + 32u);
-                if (w394 >= w951) {
-                    const u64 w722 = w394 - w951;
-                    store64(p354 + 32u, w722);
-                    n375 = 1u;
-                    w387 = load64(p354) + w722;
-                    break;
-                }
-            }
-            bumpalo_bump_Bump_alloc_layout_slow(frame, p773, w951, 1u);
-            n375 = load8(frame);
-            w387 = load64(frame + 8u);
-        } while (0);
-        w68 = w387;
-        n217 = 1u;
-        if ((n375 & 1u) == 0u) {
-            w68 = 0u;
-        } else {
-            const word p805 = p773 + 40u;
-            const u64 w834 = load64(p805);
-            if (w834 == 18446744073709551615ull) {
-                w68 = 0u;
-            } else {
-                store64(p805, w834 + 1u);
-                n217 = 0u;
-            }
-        }
-    }
-    if (n217) {
-        return n216;
-    }
-    store64(a1 + 16u, w271);
-    store64(a1, w68);
-    n216 = 1u;
-    return n216;
-}
-#endif
-
-#if UNITS & 0x20
-
-/* std_alloc::vec::Vec::grow_amortized, for other types: of a library of the compiler. */
-INTERNAL u32 std_alloc_vec_Vec_grow_amortized5(word a1, u64 a2) {
+static u32 std_alloc_vec_Vec_grow_amortized5(word a1, u64 a2) {
     u64 room[4];
     const word frame = (word)room;
     u32 n216 = 0u;
@@ -50393,7 +51052,7 @@ static u32 std_alloc_vec_Vec_grow_amortized7(word a1) {
 }
 #endif
 
-#if UNITS & 0xe0
+#if UNITS & 0xa0
 
 /* std_alloc::vec::Vec::remove: of a library of the compiler. */
 static INLINE void std_alloc_vec_Vec_remove(word a1, word a2, word a3) {
@@ -51157,7 +51816,7 @@ INTERNAL void std_alloc_vec_Vec_remove2(word a1, word a2, word a3) {
 }
 #endif
 
-#if UNITS & 0x20
+#if UNITS & 0x40
 
 /* std_alloc::vec::Vec::with_capacity: of a library of the compiler. */
 static void std_alloc_vec_Vec_with_capacity(word a1, u64 a2, u64 a3) {
@@ -51245,7 +51904,7 @@ static void std_alloc_vec_Vec_with_capacity(word a1, u64 a2, u64 a3) {
 }
 #endif
 
-#if UNITS & 0xa0
+#if UNITS & 0xc0
 
 /* std_alloc::vec::deque::VecDeque::drop: of a library of the compiler. */
 static INLINE void std_alloc_vec_deque_VecDeque_drop(word a1) {
@@ -51312,7 +51971,7 @@ static INLINE void std_alloc_vec_deque_VecDeque_drop(word a1) {
 }
 #endif
 
-#if UNITS & 0x20
+#if UNITS & 0x40
 
 /* std_alloc::vec::lodged::Vec+T+Lodged::insert_reserved: of a library of the compiler. */
 static void std_alloc_vec_lodged_Vec_T_Lodged_insert_reserved(word a1, word a2, word a3) {
@@ -51516,6 +52175,9 @@ static void std_alloc_vec_lodged_Vec_T_Lodged_insert_reserved(word a1, word a2, 
     store64(a1 + 8u, w39 + 1u);
     store64(a1, w996);
 }
+#endif
+
+#if UNITS & 0x80
 
 /* std_alloc::vec::lodged::Vec+T+Lodged::insert_reserved, for other types: of a library of the compiler. */
 static INLINE void std_alloc_vec_lodged_Vec_T_Lodged_insert_reserved2(word a1, word a2, word a3) {
@@ -51818,10 +52480,10 @@ static INLINE void std_alloc_vec_lodged_Vec_T_Lodged_insert_reserved3(word a1, w
 }
 #endif
 
-#if UNITS & 0x80
+#if UNITS & 0x40
 
 /* std_alloc::vec::lodged::Vec+T+Lodged::insert_reserved, for other types: of a library of the compiler. */
-INTERNAL void std_alloc_vec_lodged_Vec_T_Lodged_insert_reserved4(word a1, word a2, word a3) {
+static void std_alloc_vec_lodged_Vec_T_Lodged_insert_reserved4(word a1, word a2, word a3) {
     u64 room[6];
     const word frame = (word)room;
     const word p847 = a1 + 8u;
@@ -52805,9 +53467,6 @@ INTERNAL void std_alloc_vec_lodged_Vec_T_Lodged_insert_reserved4(word a1, word a
     store64(a1 + 8u, w39 + 1u);
     store64(a1, w996);
 }
-#endif
-
-#if UNITS & 0x20
 
 /* std_collections::btree::iter::Cursor::advance: of a library of the compiler. */
 static INLINE void std_collections_btree_iter_Cursor_advance(word a1, u64 a2, u64 a3, u64 a4, u64 a5) {
@@ -52921,7 +53580,7 @@ static INLINE void std_collections_btree_iter_Cursor_advance(word a1, u64 a2, u6
 }
 #endif
 
-#if UNITS & 0x40
+#if UNITS & 0x20
 
 /* std_collections::btree::iter::Cursor::advance, for other types: of a library of the compiler. */
 static INLINE void std_collections_btree_iter_Cursor_advance_i64(word a1, u64 a2, u64 a3, u64 a4, u64 a5) {
@@ -53035,7 +53694,7 @@ static INLINE void std_collections_btree_iter_Cursor_advance_i64(word a1, u64 a2
 }
 #endif
 
-#if UNITS & 0x20
+#if UNITS & 0x40
 
 /* std_collections::btree_map::BTreeMap::get: of a library of the compiler. */
 static void std_collections_btree_map_BTreeMap_get(word a1, word a2, word a3) {
@@ -53203,658 +53862,739 @@ static void std_collections_btree_map_BTreeMap_insert(word a1, word a2, word a3,
             u64 w347;
             u64 w70;
             do {
-                do {
-                    u64 w322;
-                    if (load8(a2) == 1u) {
-                        w322 = load64(a2 + 8u);
-                    } else {
-                        word p552;
-                        u32 n375;
-                        u64 w315;
-                        do {
-                            p552 = load_word(a2 + 24u);
-                            if (load64(p552 + 32u) != 0u) {
-                                const word p339 = load_word(p552 + 24u);
-                                const u64 w531 = load64(p339 + 32u);
-                                if (w531 >= 1208u) {
-                                    const u64 w877 = (w531 & 18446744073709551608ull) - 1208u;
-                                    store64(p339 + 32u, w877);
-                                    n375 = 1u;
-                                    w315 = load64(p339) + w877;
+                u64 w322;
+                if (load8(a2) == 1u) {
+                    w322 = load64(a2 + 8u);
+                } else {
+                    word p552;
+                    u32 n375;
+                    u64 w315;
+                    do {
+                        p552 = load_word(a2 + 24u);
+                        if (load64(p552 + 32u) != 0u) {
+                            const word p339 = load_word(p552 + 24u);
+                            const u64 w531 = load64(p339 + 32u);
+                            if (w531 >= 1208u) {
+                                const u64 w877 = (w531 & 18446744073709551608ull) - 1208u;
+                                store64(p339 + 32u, w877);
+                                n375 = 1u;
+                                w315 = load64(p339) + w877;
+                                break;
+                            }
+                        }
+                        bumpalo_bump_Bump_alloc_layout_slow(frame, p552, 1208u, 8u);
+                        n375 = load8(frame);
+                        w315 = load64(frame + 8u);
+                    } while (0);
+                    w322 = w315;
+                    if ((n375 & 1u) == 0u) {
+                        store64(a1, 1u);
+                        store64(a1 + 32u, w495);
+                        store64(a1 + 24u, w52);
+                        store64(a1 + 16u, w116);
+                        store64(a1 + 8u, w136);
+                        store64(a1 + 40u, load64(frame + 112u));
+                        store64(a1 + 48u, load64(frame + 120u));
+                        store64(a1 + 56u, load64(frame + 128u));
+                        store64(a1 + 64u, load64(frame + 136u));
+                        store64(a1 + 72u, load64(frame + 144u));
+                        store64(a1 + 80u, load64(frame + 152u));
+                        return;
+                    }
+                    const word p35 = p552 + 40u;
+                    const u64 w223 = load64(p35);
+                    if (w223 == 18446744073709551615ull) {
+                        store64(a1, 1u);
+                        store64(a1 + 32u, w495);
+                        store64(a1 + 24u, w52);
+                        store64(a1 + 16u, w116);
+                        store64(a1 + 8u, w136);
+                        store64(a1 + 40u, load64(frame + 112u));
+                        store64(a1 + 48u, load64(frame + 120u));
+                        store64(a1 + 56u, load64(frame + 128u));
+                        store64(a1 + 64u, load64(frame + 136u));
+                        store64(a1 + 72u, load64(frame + 144u));
+                        store64(a1 + 80u, load64(frame + 152u));
+                        return;
+                    }
+                    store64(p35, w223 + 1u);
+                    store32((word)w322, 0u);
+                    store64(a2 + 8u, w322);
+                    const u32 n981 = load8(a2);
+                    store64(a2, 1u);
+                    if (n981 == 1u) {
+                        trap();
+                    }
+                }
+                p284 = a2 + 8u;
+                const u32 n774 = load16((word)w322 + 2u);
+                u32 n630 = 0u - n774;
+                u64 w354 = w322;
+                w36 = w354;
+                const word p643 = (word)n774 & 65535u;
+                w353 = (u64)15u - p643;
+                w301 = w353;
+                for (;;) {
+                    u64 w71 = 0u;
+                    u64 w355;
+                    {
+                        w355 = w354;
+                        const word p893 = load16((word)w355);
+                        if (p893 != 0u) {
+                            const word p759 = (word)w355 + 8u;
+                            for (;;) {
+                                const word p700 = ((word)w71 << 5) + p759;
+                                const word p278 = load_word(p700);
+                                u64 w72 = 0u;
+                                u64 w825;
+                                u64 w891;
+                                {
+                                    w825 = load64(p700 + 8u);
+                                    w891 = w116 > w825 ? w825 : w116;
+                                    if (w891 >= 64u) {
+                                        const u64 w499 = w891 & 18446744073709551552ull;
+                                        word p136 = (word)w136;
+                                        word p346 = p278;
+                                        for (;;) {
+                                            u32 n20 = 0u;
+                                            u64 w73 = 0u;
+                                            do {
+                                                const word p596 = (word)w73 + p136;
+                                                const u32 n278 = load8(p596);
+                                                const word p597 = (word)w73 + p346;
+                                                const u32 n873 = load8(p596 + 1u);
+                                                n20 = (load8(p597 + 1u) != n873) | ((load8(p597) != n278) | n20);
+                                                w73 = w73 + 2u;
+                                            } while (w73 != 64u);
+                                            if (n20 & 1u)
+                                                break;
+                                            p136 = p136 + 64u;
+                                            p346 = p346 + 64u;
+                                            w72 = w72 + 64u;
+                                            if (w891 - w72 <= 63u) {
+                                                w72 = w499;
+                                                break;
+                                            }
+                                        }
+                                    }
+                                }
+                                {
+                                    u64 w244 = w891 - w72;
+                                    if (w244 >= 8u) {
+                                        while (load64(p278 + (word)w72) == load64((word)w136 + (word)w72)) {
+                                            w72 = w72 + 8u;
+                                            w244 = w244 - 8u;
+                                            if (w244 <= 7u)
+                                                break;
+                                        }
+                                    }
+                                }
+                                {
+                                    {
+                                        if (w72 < w891) {
+                                            word p301 = (word)w136 + (word)w72;
+                                            word p302 = p278 + (word)w72;
+                                            u64 w244 = w891 - w72;
+                                            for (;;) {
+                                                const u32 n357 = load8(p301);
+                                                const u32 n358 = load8(p302);
+                                                if (n357 == n358) {
+                                                    p301 = p301 + 1u;
+                                                    p302 = p302 + 1u;
+                                                    w244 = w244 - 1u;
+                                                    if (w244 != 0u)
+                                                        continue;
+                                                    break;
+                                                }
+                                                if (n358 <= n357)
+                                                    goto L8;
+                                                goto L9;
+                                            }
+                                        }
+                                    }
+                                    if (w116 == w825) {
+                                        const word p491 = (word)w71 & 15u;
+                                        const word p831 = load_word(w301 + p643 == 15u ? p284 : (p68 << 3) +
+                                            (word)w36 + 1208u);
+                                        const word p634 = p831;
+                                        if (load16(p634) <= p491) {
+                                            trap();
+                                        }
+                                        const word p5 = p491 * 48u + p634;
+                                        const word p256 = p5 + 512u;
+                                        const u64 w487 = load64(p256);
+                                        store64(p256, load64(frame + 136u));
+                                        const word p651 = p5 + 520u;
+                                        const u64 w60 = load64(p651);
+                                        store64(p651, load64(frame + 144u));
+                                        const word p447 = p5 + 528u;
+                                        const u64 w642 = load64(p447);
+                                        store64(p447, load64(frame + 152u));
+                                        const word p909 = p5 + 488u;
+                                        const u64 w533 = load64(p909);
+                                        store64(p909, load64(frame + 112u));
+                                        const word p951 = p5 + 496u;
+                                        const u64 w111 = load64(p951);
+                                        store64(p951, load64(frame + 120u));
+                                        const word p737 = p5 + 504u;
+                                        const u64 w34 = load64(p737);
+                                        store64(p737, load64(frame + 128u));
+                                        store64(frame + 88u, w487);
+                                        store64(frame + 96u, w60);
+                                        store64(frame + 104u, w642);
+                                        if (w52 != 0u) {
+                                            if (load64((word)w495 + 32u) == 1u) {
+                                                const word p191 = load_word((word)w495 + 24u);
+                                                const u64 w123 = load64(p191 + 32u);
+                                                if (load64(p191) + w123 == w136) {
+                                                    store64(p191 + 32u, w52 + w123);
+                                                }
+                                            }
+                                            const word p312 = (word)w495 + 40u;
+                                            store64(p312, load64(p312) - 1u);
+                                        }
+                                        store64(a1, 0u);
+                                        store64(a1 + 32u, w34);
+                                        store64(a1 + 24u, w111);
+                                        store64(a1 + 16u, w533);
+                                        store64(a1 + 8u, 1u);
+                                        store64(a1 + 40u, load64(frame + 88u));
+                                        store64(a1 + 48u, load64(frame + 96u));
+                                        store64(a1 + 56u, load64(frame + 104u));
+                                        store64(a1 + 64u, 0u);
+                                        store64(a1 + 72u, 0u);
+                                        store64(a1 + 80u, 0u);
+                                        return;
+                                    }
+                                    if (w116 < w825)
+                                        break;
+                                }
+                            L8:;
+                                w71 = w71 + 1u;
+                                if (w71 == p893) {
+                                    w71 = p893;
                                     break;
                                 }
                             }
-                            bumpalo_bump_Bump_alloc_layout_slow(frame, p552, 1208u, 8u);
-                            n375 = load8(frame);
-                            w315 = load64(frame + 8u);
-                        } while (0);
-                        w322 = w315;
-                        if ((n375 & 1u) == 0u)
-                            break;
-                        const word p35 = p552 + 40u;
-                        const u64 w223 = load64(p35);
-                        if (w223 == 18446744073709551615ull)
-                            break;
-                        store64(p35, w223 + 1u);
-                        store32((word)w322, 0u);
-                        store64(a2 + 8u, w322);
-                        const u32 n981 = load8(a2);
-                        store64(a2, 1u);
-                        if (n981 == 1u) {
-                            trap();
                         }
                     }
-                    p284 = a2 + 8u;
-                    const u32 n774 = load16((word)w322 + 2u);
-                    u32 n630 = 0u - n774;
-                    u64 w354 = w322;
-                    w36 = w354;
-                    const word p643 = (word)n774 & 65535u;
-                    w353 = (u64)15u - p643;
-                    w301 = w353;
-                    for (;;) {
-                        u64 w71 = 0u;
-                        u64 w355;
-                        {
-                            w355 = w354;
-                            const word p893 = load16((word)w355);
-                            if (p893 != 0u) {
-                                const word p759 = (word)w355 + 8u;
-                                for (;;) {
-                                    const word p700 = ((word)w71 << 5) + p759;
-                                    const word p278 = load_word(p700);
-                                    u64 w72 = 0u;
-                                    u64 w825;
-                                    u64 w891;
-                                    {
-                                        w825 = load64(p700 + 8u);
-                                        w891 = w116 > w825 ? w825 : w116;
-                                        if (w891 >= 64u) {
-                                            const u64 w499 = w891 & 18446744073709551552ull;
-                                            word p136 = (word)w136;
-                                            word p346 = p278;
-                                            for (;;) {
-                                                u32 n20 = 0u;
-                                                u64 w73 = 0u;
-                                                do {
-                                                    const word p596 = (word)w73 + p136;
-                                                    const u32 n278 = load8(p596);
-                                                    const word p597 = (word)w73 + p346;
-                                                    const u32 n873 = load8(p596 + 1u);
-                                                    n20 = (load8(p597 + 1u) != n873) | ((load8(p597) != n278) | n20);
-                                                    w73 = w73 + 2u;
-                                                } while (w73 != 64u);
-                                                if (n20 & 1u)
-                                                    break;
-                                                p136 = p136 + 64u;
-                                                p346 = p346 + 64u;
-                                                w72 = w72 + 64u;
-                                                if (w891 - w72 <= 63u) {
-                                                    w72 = w499;
-                                                    break;
-                                                }
-                                            }
-                                        }
-                                    }
-                                    {
-                                        u64 w244 = w891 - w72;
-                                        if (w244 >= 8u) {
-                                            while (load64(p278 + (word)w72) == load64((word)w136 + (word)w72)) {
-                                                w72 = w72 + 8u;
-                                                w244 = w244 - 8u;
-                                                if (w244 <= 7u)
-                                                    break;
-                                            }
-                                        }
-                                    }
-                                    {
-                                        {
-                                            if (w72 < w891) {
-                                                word p301 = (word)w136 + (word)w72;
-                                                word p302 = p278 + (word)w72;
-                                                u64 w244 = w891 - w72;
-                                                for (;;) {
-                                                    const u32 n357 = load8(p301);
-                                                    const u32 n358 = load8(p302);
-                                                    if (n357 == n358) {
-                                                        p301 = p301 + 1u;
-                                                        p302 = p302 + 1u;
-                                                        w244 = w244 - 1u;
-                                                        if (w244 != 0u)
-                                                            continue;
-                                                        break;
-                                                    }
-                                                    if (n358 <= n357)
-                                                        goto L8;
-                                                    goto L9;
-                                                }
-                                            }
-                                        }
-                                        if (w116 == w825) {
-                                            const word p491 = (word)w71 & 15u;
-                                            const word p831 = load_word(w301 + p643 == 15u ? p284 : (p68 << 3) +
-                                                (word)w36 + 1208u);
-                                            const word p634 = p831;
-                                            if (load16(p634) <= p491) {
-                                                trap();
-                                            }
-                                            const word p5 = p491 * 48u + p634;
-                                            const word p256 = p5 + 512u;
-                                            const u64 w487 = load64(p256);
-                                            store64(p256, load64(frame + 136u));
-                                            const word p651 = p5 + 520u;
-                                            const u64 w60 = load64(p651);
-                                            store64(p651, load64(frame + 144u));
-                                            const word p447 = p5 + 528u;
-                                            const u64 w642 = load64(p447);
-                                            store64(p447, load64(frame + 152u));
-                                            const word p909 = p5 + 488u;
-                                            const u64 w533 = load64(p909);
-                                            store64(p909, load64(frame + 112u));
-                                            const word p951 = p5 + 496u;
-                                            const u64 w111 = load64(p951);
-                                            store64(p951, load64(frame + 120u));
-                                            const word p737 = p5 + 504u;
-                                            const u64 w34 = load64(p737);
-                                            store64(p737, load64(frame + 128u));
-                                            store64(frame + 88u, w487);
-                                            store64(frame + 96u, w60);
-                                            store64(frame + 104u, w642);
-                                            if (w52 != 0u) {
-                                                if (load64((word)w495 + 32u) == 1u) {
-                                                    const word p191 = load_word((word)w495 + 24u);
-                                                    const u64 w123 = load64(p191 + 32u);
-                                                    if (load64(p191) + w123 == w136) {
-                                                        store64(p191 + 32u, w52 + w123);
-                                                    }
-                                                }
-                                                const word p312 = (word)w495 + 40u;
-                                                store64(p312, load64(p312) - 1u);
-                                            }
-                                            store64(a1, 0u);
-                                            store64(a1 + 32u, w34);
-                                            store64(a1 + 24u, w111);
-                                            store64(a1 + 16u, w533);
-                                            store64(a1 + 8u, 1u);
-                                            store64(a1 + 40u, load64(frame + 88u));
-                                            store64(a1 + 48u, load64(frame + 96u));
-                                            store64(a1 + 56u, load64(frame + 104u));
-                                            store64(a1 + 64u, 0u);
-                                            store64(a1 + 72u, 0u);
-                                            store64(a1 + 80u, 0u);
-                                            return;
-                                        }
-                                        if (w116 < w825)
-                                            break;
-                                    }
-                                L8:;
-                                    w71 = w71 + 1u;
-                                    if (w71 == p893) {
-                                        w71 = p893;
-                                        break;
-                                    }
-                                }
-                            }
-                        }
-                    L9:;
-                        w301 = w301 + 1u;
-                        w69 = (w69 << 4) + w71;
-                        if (load16((word)w355 + 2u)) {
-                            n630 = n630 + 1u;
-                            w68 = w68 + 1u;
-                            w354 = load64(((word)w71 << 3) + (word)w355 + 1208u);
-                            p68 = (word)w71;
-                            w36 = w355;
-                        } else {
-                            break;
+                L9:;
+                    w301 = w301 + 1u;
+                    w69 = (w69 << 4) + w71;
+                    if (load16((word)w355 + 2u)) {
+                        n630 = n630 + 1u;
+                        w68 = w68 + 1u;
+                        w354 = load64(((word)w71 << 3) + (word)w355 + 1208u);
+                        p68 = (word)w71;
+                        w36 = w355;
+                    } else {
+                        break;
+                    }
+                }
+                if (load64(a2 + 16u) > 9223372036854775806ull) {
+                    store64(a1, 1u);
+                    store64(a1 + 32u, w495);
+                    store64(a1 + 24u, w52);
+                    store64(a1 + 16u, w116);
+                    store64(a1 + 8u, w136);
+                    store64(a1 + 40u, load64(frame + 112u));
+                    store64(a1 + 48u, load64(frame + 120u));
+                    store64(a1 + 56u, load64(frame + 128u));
+                    store64(a1 + 64u, load64(frame + 136u));
+                    store64(a1 + 72u, load64(frame + 144u));
+                    store64(a1 + 80u, load64(frame + 152u));
+                    return;
+                }
+                const word p939 = load_word(w301 - w353 == 1u ? p284 : (p68 << 3) + (word)w36 + 1208u);
+                if (load16(p939) <= 14u) {
+                    store64(frame + 80u, load64(frame + 152u));
+                    store64(frame + 72u, load64(frame + 144u));
+                    store64(frame + 64u, load64(frame + 136u));
+                    store64(frame + 56u, load64(frame + 128u));
+                    store64(frame + 48u, load64(frame + 120u));
+                    store64(frame + 40u, load64(frame + 112u));
+                    goto L393;
+                }
+                fill(frame + 200u, 0u, 88u);
+                const word p307 = a2 + 24u;
+                w6 = w353;
+                if (load16((word)w322) >= 15u) {
+                    if (n774 > 10u) {
+                        store64(a1, 1u);
+                        store64(a1 + 32u, w495);
+                        store64(a1 + 24u, w52);
+                        store64(a1 + 16u, w116);
+                        store64(a1 + 8u, w136);
+                        store64(a1 + 40u, load64(frame + 112u));
+                        store64(a1 + 48u, load64(frame + 120u));
+                        store64(a1 + 56u, load64(frame + 128u));
+                        store64(a1 + 64u, load64(frame + 136u));
+                        store64(a1 + 72u, load64(frame + 144u));
+                        store64(a1 + 80u, load64(frame + 152u));
+                        return;
+                    }
+                    std_collections_btree_node_parts_Parts_new3(frame + 200u, p307, (word)(n774 + 1u) & 65535u);
+                    if (load8(frame + 200u)) {
+                        store64(a1, 1u);
+                        store64(a1 + 32u, w495);
+                        store64(a1 + 24u, w52);
+                        store64(a1 + 16u, w116);
+                        store64(a1 + 8u, w136);
+                        store64(a1 + 40u, load64(frame + 112u));
+                        store64(a1 + 48u, load64(frame + 120u));
+                        store64(a1 + 56u, load64(frame + 128u));
+                        store64(a1 + 64u, load64(frame + 136u));
+                        store64(a1 + 72u, load64(frame + 144u));
+                        store64(a1 + 80u, load64(frame + 152u));
+                        return;
+                    }
+                    const u64 w323 = load64(p284);
+                    w322 = load64(frame + 280u);
+                    const word p805 = load_word(frame + 256u);
+                    const word p777 = load_word(frame + 216u);
+                    const u64 w21 = load64(frame + 264u);
+                    if (w21 != 0u) {
+                        const u64 w660 = w21 << 3;
+                        if (w660 != 0u) {
+                            copy(p805 + 8u, p805, (word)w660);
                         }
                     }
-                    if (load64(a2 + 16u) <= 9223372036854775806ull) {
-                        const word p939 = load_word(w301 - w353 == 1u ? p284 : (p68 << 3) + (word)w36 + 1208u);
-                        if (load16(p939) <= 14u) {
-                            store64(frame + 80u, load64(frame + 152u));
-                            store64(frame + 72u, load64(frame + 144u));
-                            store64(frame + 64u, load64(frame + 136u));
-                            store64(frame + 56u, load64(frame + 128u));
-                            store64(frame + 48u, load64(frame + 120u));
-                            store64(frame + 40u, load64(frame + 112u));
-                            goto L393;
-                        }
-                        fill(frame + 200u, 0u, 88u);
-                        const word p307 = a2 + 24u;
-                        w6 = w353;
-                        if (load16((word)w322) >= 15u) {
-                            if (n774 > 10u)
-                                break;
-                            std_collections_btree_node_parts_Parts_new3(frame + 200u, p307, (word)(n774 + 1u) & 65535u);
-                            if (load8(frame + 200u))
-                                break;
-                            const u64 w323 = load64(p284);
-                            w322 = load64(frame + 280u);
-                            const word p805 = load_word(frame + 256u);
-                            const word p777 = load_word(frame + 216u);
-                            const u64 w21 = load64(frame + 264u);
-                            if (w21 != 0u) {
-                                const u64 w660 = w21 << 3;
-                                if (w660 != 0u) {
-                                    copy(p805 + 8u, p805, (word)w660);
-                                }
-                            }
-                            store64(p805, w323);
-                            store16((word)w322, (u32)p777);
-                            store64(p284, w322);
-                            w6 = (u64)14u - p643;
-                        }
-                        store64(frame + 208u, 0u);
-                        store64(frame + 200u, 0u);
-                        if (w301 > w6) {
-                            const u64 w307 = w68 + w353 - w6;
-                            u64 w355;
-                            if ((((word)w301 - (word)w6) & 3u) == 0u) {
-                                w355 = w301;
-                            } else {
-                                u64 w641 = (word)(n630 - (u32)(word)w6) & 3u;
-                                w355 = w301;
-                                do {
-                                    w355 = w355 - 1u;
-                                    store8(frame + 200u + (word)w355, (u32)(word)w69 & 15u);
-                                    w69 = w69 >> 4;
-                                    w641 = w641 - 1u;
-                                } while (w641 != 0u);
-                            }
-                            if (w307 >= 3u) {
-                                do {
-                                    const word p605 = (word)w355 + (frame + 196u);
-                                    const u32 n14 = (u32)(word)w69;
-                                    store8(p605 + 3u, n14 & 15u);
-                                    store8(p605 + 2u, (n14 & 240u) >> 4);
-                                    store8(p605 + 1u, (n14 >> 8) & 15u);
-                                    store8(p605, (n14 >> 12) & 15u);
-                                    w69 = w69 >> 16;
-                                    w355 = w355 - 4u;
-                                } while (w6 < w355);
-                            }
-                        }
-                        store64(frame + 192u, load64(frame + 208u));
-                        store64(frame + 184u, load64(frame + 200u));
-                        p706 = frame + 184u + (word)w6;
-                        {
-                            {
-                                const u64 w405 = 16u - w6;
-                                if (w405 >= 2u) {
-                                    word p65 = p284;
-                                    word p301 = p706;
-                                    u64 w406 = w405;
-                                    u64 w355 = 0;
+                    store64(p805, w323);
+                    store16((word)w322, (u32)p777);
+                    store64(p284, w322);
+                    w6 = (u64)14u - p643;
+                }
+                store64(frame + 208u, 0u);
+                store64(frame + 200u, 0u);
+                if (w301 > w6) {
+                    const u64 w307 = w68 + w353 - w6;
+                    u64 w355;
+                    if ((((word)w301 - (word)w6) & 3u) == 0u) {
+                        w355 = w301;
+                    } else {
+                        u64 w641 = (word)(n630 - (u32)(word)w6) & 3u;
+                        w355 = w301;
+                        do {
+                            w355 = w355 - 1u;
+                            store8(frame + 200u + (word)w355, (u32)(word)w69 & 15u);
+                            w69 = w69 >> 4;
+                            w641 = w641 - 1u;
+                        } while (w641 != 0u);
+                    }
+                    if (w307 >= 3u) {
+                        do {
+                            const word p605 = (word)w355 + (frame + 196u);
+                            const u32 n14 = (u32)(word)w69;
+                            store8(p605 + 3u, n14 & 15u);
+                            store8(p605 + 2u, (n14 & 240u) >> 4);
+                            store8(p605 + 1u, (n14 >> 8) & 15u);
+                            store8(p605, (n14 >> 12) & 15u);
+                            w69 = w69 >> 16;
+                            w355 = w355 - 4u;
+                        } while (w6 < w355);
+                    }
+                }
+                store64(frame + 192u, load64(frame + 208u));
+                store64(frame + 184u, load64(frame + 200u));
+                p706 = frame + 184u + (word)w6;
+                {
+                    {
+                        const u64 w405 = 16u - w6;
+                        if (w405 >= 2u) {
+                            word p65 = p284;
+                            word p301 = p706;
+                            u64 w406 = w405;
+                            u64 w355 = 0;
+                            do {
+                                w355 = w406;
+                                w36 = load64(p65);
+                                u32 n357 = load8(p301);
+                                const word p698 = (word)n357 & 255u;
+                                const word p836 = p698 << 3;
+                                if (load16(load_word(p836 + (word)w36 + 1208u)) >= 15u) {
+                                    fill(frame + 200u, 0u, 88u);
+                                    std_collections_btree_node_parts_Parts_new3(frame + 200u, p307,
+                                        (u64)load16((word)w36 + 2u) - 1u);
+                                    if (load8(frame + 200u))
+                                        goto L271;
+                                    const u64 w37 = load64(p65);
+                                    const u64 w630 = load64(frame + 280u);
+                                    const u64 w21 = load64(frame + 264u);
+                                    const u64 w805 = load64(frame + 256u);
+                                    const u64 w19 = load64(frame + 240u);
+                                    const u64 w734 = load64(frame + 232u);
+                                    const u64 w749 = load64(frame + 208u);
+                                    const u64 w777 = load64(frame + 216u);
+                                    fill(frame + 288u, 0u, 80u);
+                                    store64(frame + 440u, w37);
+                                    store64(frame + 408u, 15u);
+                                    store64(frame + 392u, w37 + 488u);
+                                    store64(frame + 384u, 15u);
+                                    store64(frame + 368u, w37 + 8u);
+                                    const word p929 = load16((word)w37);
+                                    store64(frame + 400u, p929);
+                                    store64(frame + 376u, p929);
+                                    const u32 n779 = load16((word)w37 + 2u);
+                                    store64(frame + 432u, n779 ? 16u : 0u);
+                                    store64(frame + 424u, n779 ? p929 + 1u : 0u);
+                                    const u64 w751 = w37 + 1208u;
+                                    store64(frame + 416u, w751);
+                                    fill(frame + 448u, 0u, 80u);
+                                    const word p860 = p836 + (word)w751;
+                                    const u64 w324 = load64(p860);
+                                    fill(frame + 528u, 0u, 80u);
+                                    fill(frame + 608u, 0u, 80u);
+                                    store64(frame + 760u, w324);
+                                    store64(frame + 736u, w324 + 1208u);
+                                    store64(frame + 728u, 15u);
+                                    store64(frame + 712u, w324 + 488u);
+                                    const u32 n118 = load16((word)w324 + 2u);
+                                    store64(frame + 752u, n118 ? 16u : 0u);
+                                    const u32 n37 = load16((word)w324);
+                                    const word p280 = (word)n37 & 65535u;
+                                    store64(frame + 744u, n118 ? p280 + 1u : 0u);
+                                    const u64 w986 = w324 + 8u;
+                                    u64 w538;
                                     do {
-                                        w355 = w406;
-                                        w36 = load64(p65);
-                                        u32 n357 = load8(p301);
-                                        const word p698 = (word)n357 & 255u;
-                                        const word p836 = p698 << 3;
-                                        if (load16(load_word(p836 + (word)w36 + 1208u)) >= 15u) {
-                                            fill(frame + 200u, 0u, 88u);
-                                            std_collections_btree_node_parts_Parts_new3(frame + 200u, p307,
-                                                (u64)load16((word)w36 + 2u) - 1u);
-                                            if (load8(frame + 200u))
-                                                goto L271;
-                                            const u64 w37 = load64(p65);
-                                            const u64 w630 = load64(frame + 280u);
-                                            const u64 w21 = load64(frame + 264u);
-                                            const u64 w805 = load64(frame + 256u);
-                                            const u64 w19 = load64(frame + 240u);
-                                            const u64 w734 = load64(frame + 232u);
-                                            const u64 w749 = load64(frame + 208u);
-                                            const u64 w777 = load64(frame + 216u);
-                                            fill(frame + 288u, 0u, 80u);
-                                            store64(frame + 440u, w37);
-                                            store64(frame + 408u, 15u);
-                                            store64(frame + 392u, w37 + 488u);
-                                            store64(frame + 384u, 15u);
-                                            store64(frame + 368u, w37 + 8u);
-                                            const word p929 = load16((word)w37);
-                                            store64(frame + 400u, p929);
-                                            store64(frame + 376u, p929);
-                                            const u32 n779 = load16((word)w37 + 2u);
-                                            store64(frame + 432u, n779 ? 16u : 0u);
-                                            store64(frame + 424u, n779 ? p929 + 1u : 0u);
-                                            const u64 w751 = w37 + 1208u;
-                                            store64(frame + 416u, w751);
-                                            fill(frame + 448u, 0u, 80u);
-                                            const word p860 = p836 + (word)w751;
-                                            const u64 w324 = load64(p860);
-                                            fill(frame + 528u, 0u, 80u);
-                                            fill(frame + 608u, 0u, 80u);
-                                            store64(frame + 760u, w324);
-                                            store64(frame + 736u, w324 + 1208u);
-                                            store64(frame + 728u, 15u);
-                                            store64(frame + 712u, w324 + 488u);
-                                            const u32 n118 = load16((word)w324 + 2u);
-                                            store64(frame + 752u, n118 ? 16u : 0u);
-                                            const u32 n37 = load16((word)w324);
-                                            const word p280 = (word)n37 & 65535u;
-                                            store64(frame + 744u, n118 ? p280 + 1u : 0u);
-                                            const u64 w986 = w324 + 8u;
-                                            u64 w538;
+                                        u64 w530;
+                                        u64 w523;
+                                        u64 w71;
+                                        {
                                             do {
-                                                u64 w530;
-                                                u64 w523;
-                                                u64 w71;
-                                                {
-                                                    do {
-                                                        w538 = (u64)p280 - 8u;
-                                                        const u64 w924 = w538 << 5;
-                                                        const u64 w260 = w777 << 5;
-                                                        const u64 w256 = w260 + w749;
-                                                        const u64 w240 = w324 + 264u;
-                                                        if (w256 - w240 < w924) {
-                                                            if (w538 == 0u) {
-                                                                w530 = w324 + 872u;
-                                                                w523 = w19 * 48u + w734;
-                                                                w71 = 0u;
-                                                                goto L368;
-                                                            }
-                                                            u64 w631 = p280 & 3u;
-                                                            u64 w72 = 0u;
-                                                            if (((n37 - 9u) & 65535u) >= 3u) {
-                                                                const u64 w244 = w538 & 18446744073709551612ull;
-                                                                word p69 = 0u;
-                                                                do {
-                                                                const word p267 = (word)w324 + p69;
-                                                                const u64 w936 = load64(p267 + 264u);
-                                                                const u64 w517 = load64(p267 + 272u);
-                                                                const u64 w634 = load64(p267 + 280u);
-                                                                const word p787 = p69 + (word)w256;
-                                                                store64(p787 + 24u, load64(p267 + 288u));
-                                                                store64(p787 + 16u, w634);
-                                                                store64(p787 + 8u, w517);
-                                                                store64(p787, w936);
-                                                                const u64 w375 = load64(p267 + 296u);
-                                                                const u64 w476 = load64(p267 + 304u);
-                                                                const u64 w5 = load64(p267 + 312u);
-                                                                store64(p787 + 56u, load64(p267 + 320u));
-                                                                store64(p787 + 48u, w5);
-                                                                store64(p787 + 40u, w476);
-                                                                store64(p787 + 32u, w375);
-                                                                const u64 w692 = load64(p267 + 328u);
-                                                                const u64 w718 = load64(p267 + 336u);
-                                                                const u64 w236 = load64(p267 + 344u);
-                                                                store64(p787 + 88u, load64(p267 + 352u));
-                                                                store64(p787 + 80u, w236);
-                                                                store64(p787 + 72u, w718);
-                                                                store64(p787 + 64u, w692);
-                                                                const u64 w16 = load64(p267 + 360u);
-                                                                const u64 w323 = load64(p267 + 368u);
-                                                                const u64 w897 = load64(p267 + 376u);
-                                                                store64(p787 + 120u, load64(p267 + 384u));
-                                                                store64(p787 + 112u, w897);
-                                                                store64(p787 + 104u, w323);
-                                                                store64(p787 + 96u, w16);
-                                                                p69 = p69 + 128u;
-                                                                w72 = w72 + 4u;
-                                                                } while (w72 != w244);
-                                                                if (w631 == 0u)
-                                                                break;
-                                                            }
-                                                            const word p305 = (word)w72 << 5;
-                                                            word p600 = p305 + (word)w260 + (word)w749;
-                                                            word p809 = (word)w324 + p305 + 264u;
-                                                            do {
-                                                                const u64 w38 = load64(p809);
-                                                                const u64 w293 = load64(p809 + 8u);
-                                                                const u64 w14 = load64(p809 + 16u);
-                                                                store64(p600 + 24u, load64(p809 + 24u));
-                                                                store64(p600 + 16u, w14);
-                                                                store64(p600 + 8u, w293);
-                                                                store64(p600, w38);
-                                                                p600 = p600 + 32u;
-                                                                p809 = p809 + 32u;
-                                                                w631 = w631 - 1u;
-                                                            } while (w631 != 0u);
-                                                        } else if (w924 != 0u) {
-                                                            copy((word)w256, (word)w240, (word)w924);
-                                                        }
-                                                    } while (0);
-                                                    w71 = w538 * 48u;
-                                                    const u64 w712 = w19 * 48u;
-                                                    w523 = w734 + w712;
-                                                    w530 = w324 + 872u;
-                                                    if (w523 - w530 < w71) {
-                                                        if (w538 == 0u)
-                                                            break;
-                                                        u64 w631 = p280 & 3u;
-                                                        u64 w72 = 0u;
-                                                        if (((n37 - 9u) & 65535u) >= 3u) {
-                                                            const u64 w244 = w538 & 18446744073709551612ull;
-                                                            word p69 = 0u;
-                                                            do {
-                                                                const word p267 = (word)w324 + p69;
-                                                                const u64 w819 = load64(p267 + 872u);
-                                                                const u64 w470 = load64(p267 + 880u);
-                                                                const u64 w575 = load64(p267 + 888u);
-                                                                const u64 w501 = load64(p267 + 896u);
-                                                                const u64 w694 = load64(p267 + 904u);
-                                                                const word p596 = p69 + (word)w523;
-                                                                store64(p596 + 40u, load64(p267 + 912u));
-                                                                store64(p596 + 32u, w694);
-                                                                store64(p596 + 24u, w501);
-                                                                store64(p596 + 16u, w575);
-                                                                store64(p596 + 8u, w470);
-                                                                store64(p596, w819);
-                                                                const u64 w186 = load64(p267 + 920u);
-                                                                const u64 w165 = load64(p267 + 928u);
-                                                                const u64 w138 = load64(p267 + 936u);
-                                                                const u64 w529 = load64(p267 + 944u);
-                                                                const u64 w411 = load64(p267 + 952u);
-                                                                store64(p596 + 88u, load64(p267 + 960u));
-                                                                store64(p596 + 80u, w411);
-                                                                store64(p596 + 72u, w529);
-                                                                store64(p596 + 64u, w138);
-                                                                store64(p596 + 56u, w165);
-                                                                store64(p596 + 48u, w186);
-                                                                const u64 w771 = load64(p267 + 968u);
-                                                                const u64 w562 = load64(p267 + 976u);
-                                                                const u64 w810 = load64(p267 + 984u);
-                                                                const u64 w237 = load64(p267 + 992u);
-                                                                const u64 w349 = load64(p267 + 1000u);
-                                                                store64(p596 + 136u, load64(p267 + 1008u));
-                                                                store64(p596 + 128u, w349);
-                                                                store64(p596 + 120u, w237);
-                                                                store64(p596 + 112u, w810);
-                                                                store64(p596 + 104u, w562);
-                                                                store64(p596 + 96u, w771);
-                                                                const u64 w5 = load64(p267 + 1016u);
-                                                                const u64 w44 = load64(p267 + 1024u);
-                                                                const u64 w100 = load64(p267 + 1032u);
-                                                                const u64 w614 = load64(p267 + 1040u);
-                                                                const u64 w826 = load64(p267 + 1048u);
-                                                                store64(p596 + 184u, load64(p267 + 1056u));
-                                                                store64(p596 + 176u, w826);
-                                                                store64(p596 + 168u, w614);
-                                                                store64(p596 + 160u, w100);
-                                                                store64(p596 + 152u, w44);
-                                                                store64(p596 + 144u, w5);
-                                                                p69 = p69 + 192u;
-                                                                w72 = w72 + 4u;
-                                                            } while (w72 != w244);
-                                                            if (w631 == 0u)
-                                                                break;
-                                                        }
-                                                        const word p730 = (word)w72 * 48u;
-                                                        word p137 = p730 + (word)w712 + (word)w734;
-                                                        word p138 = (word)w324 + p730 + 872u;
+                                                w538 = (u64)p280 - 8u;
+                                                const u64 w924 = w538 << 5;
+                                                const u64 w260 = w777 << 5;
+                                                const u64 w256 = w260 + w749;
+                                                const u64 w240 = w324 + 264u;
+                                                if (w256 - w240 < w924) {
+                                                    if (w538 == 0u) {
+                                                        w530 = w324 + 872u;
+                                                        w523 = w19 * 48u + w734;
+                                                        w71 = 0u;
+                                                        goto L368;
+                                                    }
+                                                    u64 w631 = p280 & 3u;
+                                                    u64 w72 = 0u;
+                                                    if (((n37 - 9u) & 65535u) >= 3u) {
+                                                        const u64 w244 = w538 & 18446744073709551612ull;
+                                                        word p69 = 0u;
                                                         do {
-                                                            const u64 w38 = load64(p138);
-                                                            const u64 w293 = load64(p138 + 8u);
-                                                            const u64 w14 = load64(p138 + 16u);
-                                                            const u64 w321 = load64(p138 + 24u);
-                                                            const u64 w97 = load64(p138 + 32u);
-                                                            store64(p137 + 40u, load64(p138 + 40u));
-                                                            store64(p137 + 32u, w97);
-                                                            store64(p137 + 24u, w321);
-                                                            store64(p137 + 16u, w14);
-                                                            store64(p137 + 8u, w293);
-                                                            store64(p137, w38);
-                                                            p137 = p137 + 48u;
-                                                            p138 = p138 + 48u;
-                                                            w631 = w631 - 1u;
-                                                        } while (w631 != 0u);
+                                                            const word p267 = (word)w324 + p69;
+                                                            const u64 w936 = load64(p267 + 264u);
+                                                            const u64 w517 = load64(p267 + 272u);
+                                                            const u64 w634 = load64(p267 + 280u);
+                                                            const word p787 = p69 + (word)w256;
+                                                            store64(p787 + 24u, load64(p267 + 288u));
+                                                            store64(p787 + 16u, w634);
+                                                            store64(p787 + 8u, w517);
+                                                            store64(p787, w936);
+                                                            const u64 w375 = load64(p267 + 296u);
+                                                            const u64 w476 = load64(p267 + 304u);
+                                                            const u64 w5 = load64(p267 + 312u);
+                                                            store64(p787 + 56u, load64(p267 + 320u));
+                                                            store64(p787 + 48u, w5);
+                                                            store64(p787 + 40u, w476);
+                                                            store64(p787 + 32u, w375);
+                                                            const u64 w692 = load64(p267 + 328u);
+                                                            const u64 w718 = load64(p267 + 336u);
+                                                            const u64 w236 = load64(p267 + 344u);
+                                                            store64(p787 + 88u, load64(p267 + 352u));
+                                                            store64(p787 + 80u, w236);
+                                                            store64(p787 + 72u, w718);
+                                                            store64(p787 + 64u, w692);
+                                                            const u64 w16 = load64(p267 + 360u);
+                                                            const u64 w323 = load64(p267 + 368u);
+                                                            const u64 w897 = load64(p267 + 376u);
+                                                            store64(p787 + 120u, load64(p267 + 384u));
+                                                            store64(p787 + 112u, w897);
+                                                            store64(p787 + 104u, w323);
+                                                            store64(p787 + 96u, w16);
+                                                            p69 = p69 + 128u;
+                                                            w72 = w72 + 4u;
+                                                        } while (w72 != w244);
+                                                        if (w631 == 0u)
+                                                            break;
+                                                    }
+                                                    const word p305 = (word)w72 << 5;
+                                                    word p600 = p305 + (word)w260 + (word)w749;
+                                                    word p809 = (word)w324 + p305 + 264u;
+                                                    do {
+                                                        const u64 w38 = load64(p809);
+                                                        const u64 w293 = load64(p809 + 8u);
+                                                        const u64 w14 = load64(p809 + 16u);
+                                                        store64(p600 + 24u, load64(p809 + 24u));
+                                                        store64(p600 + 16u, w14);
+                                                        store64(p600 + 8u, w293);
+                                                        store64(p600, w38);
+                                                        p600 = p600 + 32u;
+                                                        p809 = p809 + 32u;
+                                                        w631 = w631 - 1u;
+                                                    } while (w631 != 0u);
+                                                } else if (w924 != 0u) {
+                                                    copy((word)w256, (word)w240, (word)w924);
+                                                }
+                                            } while (0);
+                                            w71 = w538 * 48u;
+                                            const u64 w712 = w19 * 48u;
+                                            w523 = w734 + w712;
+                                            w530 = w324 + 872u;
+                                            if (w523 - w530 < w71) {
+                                                if (w538 == 0u)
+                                                    break;
+                                                u64 w631 = p280 & 3u;
+                                                u64 w72 = 0u;
+                                                if (((n37 - 9u) & 65535u) >= 3u) {
+                                                    const u64 w244 = w538 & 18446744073709551612ull;
+                                                    word p69 = 0u;
+                                                    do {
+                                                        const word p267 = (word)w324 + p69;
+                                                        const u64 w819 = load64(p267 + 872u);
+                                                        const u64 w470 = load64(p267 + 880u);
+                                                        const u64 w575 = load64(p267 + 888u);
+                                                        const u64 w501 = load64(p267 + 896u);
+                                                        const u64 w694 = load64(p267 + 904u);
+                                                        const word p596 = p69 + (word)w523;
+                                                        store64(p596 + 40u, load64(p267 + 912u));
+                                                        store64(p596 + 32u, w694);
+                                                        store64(p596 + 24u, w501);
+                                                        store64(p596 + 16u, w575);
+                                                        store64(p596 + 8u, w470);
+                                                        store64(p596, w819);
+                                                        const u64 w186 = load64(p267 + 920u);
+                                                        const u64 w165 = load64(p267 + 928u);
+                                                        const u64 w138 = load64(p267 + 936u);
+                                                        const u64 w529 = load64(p267 + 944u);
+                                                        const u64 w411 = load64(p267 + 952u);
+                                                        store64(p596 + 88u, load64(p267 + 960u));
+                                                        store64(p596 + 80u, w411);
+                                                        store64(p596 + 72u, w529);
+                                                        store64(p596 + 64u, w138);
+                                                        store64(p596 + 56u, w165);
+                                                        store64(p596 + 48u, w186);
+                                                        const u64 w771 = load64(p267 + 968u);
+                                                        const u64 w562 = load64(p267 + 976u);
+                                                        const u64 w810 = load64(p267 + 984u);
+                                                        const u64 w237 = load64(p267 + 992u);
+                                                        const u64 w349 = load64(p267 + 1000u);
+                                                        store64(p596 + 136u, load64(p267 + 1008u));
+                                                        store64(p596 + 128u, w349);
+                                                        store64(p596 + 120u, w237);
+                                                        store64(p596 + 112u, w810);
+                                                        store64(p596 + 104u, w562);
+                                                        store64(p596 + 96u, w771);
+                                                        const u64 w5 = load64(p267 + 1016u);
+                                                        const u64 w44 = load64(p267 + 1024u);
+                                                        const u64 w100 = load64(p267 + 1032u);
+                                                        const u64 w614 = load64(p267 + 1040u);
+                                                        const u64 w826 = load64(p267 + 1048u);
+                                                        store64(p596 + 184u, load64(p267 + 1056u));
+                                                        store64(p596 + 176u, w826);
+                                                        store64(p596 + 168u, w614);
+                                                        store64(p596 + 160u, w100);
+                                                        store64(p596 + 152u, w44);
+                                                        store64(p596 + 144u, w5);
+                                                        p69 = p69 + 192u;
+                                                        w72 = w72 + 4u;
+                                                    } while (w72 != w244);
+                                                    if (w631 == 0u)
                                                         break;
-                                                    }
                                                 }
-                                            L368:;
-                                                if (w71 != 0u) {
-                                                    copy((word)w523, (word)w530, (word)w71);
-                                                }
-                                            } while (0);
-                                            store64(frame + 768u, 0u);
-                                            store64(frame + 720u, 8u);
-                                            store64(frame + 776u, 0u);
-                                            store64(frame + 784u, 0u);
-                                            store64(frame + 792u, 0u);
-                                            store64(frame + 800u, 0u);
-                                            store64(frame + 808u, 0u);
-                                            store64(frame + 704u, 15u);
-                                            store64(frame + 696u, 7u);
-                                            store64(frame + 688u, w986);
-                                            store64(frame + 816u, load64((word)w324 + 232u));
-                                            store64(frame + 824u, load64((word)w324 + 240u));
-                                            store64(frame + 832u, load64((word)w324 + 248u));
-                                            store64(frame + 840u, load64((word)w324 + 256u));
-                                            std_alloc_vec_Vec_remove2(frame + 768u, frame + 712u, 7u);
-                                            do {
-                                                if (n118 != 0u) {
-                                                    const u64 w818 = load64(frame + 744u);
-                                                    const u64 w727 = w818 - 8u;
-                                                    const u64 w731 = w727 << 3;
-                                                    const u64 w660 = w21 << 3;
-                                                    const u64 w499 = w660 + w805;
-                                                    const u64 w484 = load64(frame + 736u);
-                                                    const u64 w645 = w484 + 64u;
-                                                    if (w499 - w645 < w731) {
-                                                        if (w727 != 0u) {
-                                                            u64 w641 = (word)w818 & 3u;
-                                                            u64 w71 = 0u;
-                                                            if (w818 - 9u >= 3u) {
-                                                                const u64 w371 = w727 & 18446744073709551612ull;
-                                                                word p69 = 0u;
-                                                                do {
-                                                                const word p51 = p69 + (word)w499;
-                                                                const word p991 = p69 + (word)w484;
-                                                                store64(p51, load64(p991 + 64u));
-                                                                store64(p51 + 8u, load64(p991 + 72u));
-                                                                store64(p51 + 16u, load64(p991 + 80u));
-                                                                store64(p51 + 24u, load64(p991 + 88u));
-                                                                p69 = p69 + 32u;
-                                                                w71 = w71 + 4u;
-                                                                } while (w71 != w371);
-                                                                if (w641 == 0u)
-                                                                break;
-                                                            }
-                                                            const word p156 = (word)w71 << 3;
-                                                            word p644 = p156 + (word)w660 + (word)w805;
-                                                            word p671 = p156 + (word)w484 + 64u;
-                                                            do {
-                                                                store64(p644, load64(p671));
-                                                                p644 = p644 + 8u;
-                                                                p671 = p671 + 8u;
-                                                                w641 = w641 - 1u;
-                                                            } while (w641 != 0u);
-                                                        }
-                                                    } else if (w731 != 0u) {
-                                                        copy((word)w499, (word)w645, (word)w731);
-                                                    }
-                                                }
-                                            } while (0);
-                                            const u64 w330 = load64(frame + 760u);
-                                            store16((word)w330, (u32)load_word(frame + 696u));
-                                            store64(frame + 640u, load64(frame + 768u));
-                                            store64(frame + 648u, load64(frame + 776u));
-                                            store64(frame + 656u, load64(frame + 784u));
-                                            store64(frame + 664u, load64(frame + 792u));
-                                            store64(frame + 672u, load64(frame + 800u));
-                                            store64(frame + 680u, load64(frame + 808u));
-                                            store16((word)w630, (u32)((word)w777 + (word)w538));
-                                            store64(frame + 608u, load64(frame + 816u));
-                                            store64(frame + 616u, load64(frame + 824u));
-                                            store64(frame + 624u, load64(frame + 832u));
-                                            store64(frame + 632u, load64(frame + 840u));
-                                            copy(frame + 528u, frame + 608u, 80u);
-                                            copy(frame + 448u, frame + 528u, 80u);
-                                            store64(p860, w330);
-                                            copy(frame + 288u, frame + 448u, 80u);
-                                            std_alloc_vec_lodged_Vec_T_Lodged_insert_reserved(frame + 368u, p698,
-                                                frame + 288u);
-                                            std_alloc_vec_lodged_Vec_T_Lodged_insert_reserved4(frame + 392u, p698,
-                                                frame + 320u);
-                                            const word p859 = p698 + 1u;
-                                            const word p92 = p859 << 3;
-                                            const word p466 = load_word(frame + 416u);
-                                            const u64 w39 = load64(frame + 424u);
-                                            if (p859 != w39) {
-                                                const u64 w289 = (w39 - p859) << 3;
-                                                if (w289 != 0u) {
-                                                    const word p97 = p466 + p92;
-                                                    copy(p97 + 8u, p97, (word)w289);
-                                                }
-                                            }
-                                            store64(p466 + p92, w630);
-                                            w36 = load64(frame + 440u);
-                                            store16((word)w36, (u32)load_word(frame + 376u));
-                                            store64(p65, w36);
-                                            const u32 n107 = load8(p301 + 1u);
-                                            if (n107 <= 7u) {
-                                                n357 = load8(p301);
-                                            } else {
-                                                store8(p301 + 1u, n107 - 8u);
-                                                n357 = n357 + 1u;
-                                                store8(p301, n357);
+                                                const word p730 = (word)w72 * 48u;
+                                                word p137 = p730 + (word)w712 + (word)w734;
+                                                word p138 = (word)w324 + p730 + 872u;
+                                                do {
+                                                    const u64 w38 = load64(p138);
+                                                    const u64 w293 = load64(p138 + 8u);
+                                                    const u64 w14 = load64(p138 + 16u);
+                                                    const u64 w321 = load64(p138 + 24u);
+                                                    const u64 w97 = load64(p138 + 32u);
+                                                    store64(p137 + 40u, load64(p138 + 40u));
+                                                    store64(p137 + 32u, w97);
+                                                    store64(p137 + 24u, w321);
+                                                    store64(p137 + 16u, w14);
+                                                    store64(p137 + 8u, w293);
+                                                    store64(p137, w38);
+                                                    p137 = p137 + 48u;
+                                                    p138 = p138 + 48u;
+                                                    w631 = w631 - 1u;
+                                                } while (w631 != 0u);
+                                                break;
                                             }
                                         }
-                                        w406 = w355 - 1u;
-                                        p301 = p301 + 1u;
-                                        p68 = (word)n357 & 255u;
-                                        p65 = (p68 << 3) + (word)w36 + 1208u;
-                                    } while (w355 > 2u);
-                                    w322 = load64(p284);
+                                    L368:;
+                                        if (w71 != 0u) {
+                                            copy((word)w523, (word)w530, (word)w71);
+                                        }
+                                    } while (0);
+                                    store64(frame + 768u, 0u);
+                                    store64(frame + 720u, 8u);
+                                    store64(frame + 776u, 0u);
+                                    store64(frame + 784u, 0u);
+                                    store64(frame + 792u, 0u);
+                                    store64(frame + 800u, 0u);
+                                    store64(frame + 808u, 0u);
+                                    store64(frame + 704u, 15u);
+                                    store64(frame + 696u, 7u);
+                                    store64(frame + 688u, w986);
+                                    store64(frame + 816u, load64((word)w324 + 232u));
+                                    store64(frame + 824u, load64((word)w324 + 240u));
+                                    store64(frame + 832u, load64((word)w324 + 248u));
+                                    store64(frame + 840u, load64((word)w324 + 256u));
+                                    std_alloc_vec_Vec_remove2(frame + 768u, frame + 712u, 7u);
+                                    do {
+                                        if (n118 != 0u) {
+                                            const u64 w818 = load64(frame + 744u);
+                                            const u64 w727 = w818 - 8u;
+                                            const u64 w731 = w727 << 3;
+                                            const u64 w660 = w21 << 3;
+                                            const u64 w499 = w660 + w805;
+                                            const u64 w484 = load64(frame + 736u);
+                                            const u64 w645 = w484 + 64u;
+                                            if (w499 - w645 < w731) {
+                                                if (w727 != 0u) {
+                                                    u64 w641 = (word)w818 & 3u;
+                                                    u64 w71 = 0u;
+                                                    if (w818 - 9u >= 3u) {
+                                                        const u64 w371 = w727 & 18446744073709551612ull;
+                                                        word p69 = 0u;
+                                                        do {
+                                                            const word p51 = p69 + (word)w499;
+                                                            const word p991 = p69 + (word)w484;
+                                                            store64(p51, load64(p991 + 64u));
+                                                            store64(p51 + 8u, load64(p991 + 72u));
+                                                            store64(p51 + 16u, load64(p991 + 80u));
+                                                            store64(p51 + 24u, load64(p991 + 88u));
+                                                            p69 = p69 + 32u;
+                                                            w71 = w71 + 4u;
+                                                        } while (w71 != w371);
+                                                        if (w641 == 0u)
+                                                            break;
+                                                    }
+                                                    const word p156 = (word)w71 << 3;
+                                                    word p644 = p156 + (word)w660 + (word)w805;
+                                                    word p671 = p156 + (word)w484 + 64u;
+                                                    do {
+                                                        store64(p644, load64(p671));
+                                                        p644 = p644 + 8u;
+                                                        p671 = p671 + 8u;
+                                                        w641 = w641 - 1u;
+                                                    } while (w641 != 0u);
+                                                }
+                                            } else if (w731 != 0u) {
+                                                copy((word)w499, (word)w645, (word)w731);
+                                            }
+                                        }
+                                    } while (0);
+                                    const u64 w330 = load64(frame + 760u);
+                                    store16((word)w330, (u32)load_word(frame + 696u));
+                                    store64(frame + 640u, load64(frame + 768u));
+                                    store64(frame + 648u, load64(frame + 776u));
+                                    store64(frame + 656u, load64(frame + 784u));
+                                    store64(frame + 664u, load64(frame + 792u));
+                                    store64(frame + 672u, load64(frame + 800u));
+                                    store64(frame + 680u, load64(frame + 808u));
+                                    store16((word)w630, (u32)((word)w777 + (word)w538));
+                                    store64(frame + 608u, load64(frame + 816u));
+                                    store64(frame + 616u, load64(frame + 824u));
+                                    store64(frame + 624u, load64(frame + 832u));
+                                    store64(frame + 632u, load64(frame + 840u));
+                                    copy(frame + 528u, frame + 608u, 80u);
+                                    copy(frame + 448u, frame + 528u, 80u);
+                                    store64(p860, w330);
+                                    copy(frame + 288u, frame + 448u, 80u);
+                                    std_alloc_vec_lodged_Vec_T_Lodged_insert_reserved(frame + 368u, p698, frame + 288u);
+                                    std_alloc_vec_lodged_Vec_T_Lodged_insert_reserved4(frame + 392u, p698, frame +
+                                        320u);
+                                    const word p859 = p698 + 1u;
+                                    const word p92 = p859 << 3;
+                                    const word p466 = load_word(frame + 416u);
+                                    const u64 w39 = load64(frame + 424u);
+                                    if (p859 != w39) {
+                                        const u64 w289 = (w39 - p859) << 3;
+                                        if (w289 != 0u) {
+                                            const word p97 = p466 + p92;
+                                            copy(p97 + 8u, p97, (word)w289);
+                                        }
+                                    }
+                                    store64(p466 + p92, w630);
+                                    w36 = load64(frame + 440u);
+                                    store16((word)w36, (u32)load_word(frame + 376u));
+                                    store64(p65, w36);
+                                    const u32 n107 = load8(p301 + 1u);
+                                    if (n107 <= 7u) {
+                                        n357 = load8(p301);
+                                    } else {
+                                        store8(p301 + 1u, n107 - 8u);
+                                        n357 = n357 + 1u;
+                                        store8(p301, n357);
+                                    }
                                 }
-                                if (load16((word)w322) == 0u)
-                                    goto L558;
-                                w347 = (word)w405 & 7u;
-                                w70 = 0u;
-                                if (w6 - 9u < 7u)
-                                    goto L338;
-                                const u64 w861 = w405 & 18446744073709551608ull;
-                                do {
-                                    w70 = w70 + 8u;
-                                } while (w861 != w70);
-                                if (w347 != 0u)
-                                    goto L338;
-                                p8 = (word)w70 - 1u;
-                                goto L217;
-                            }
-                        L271:;
+                                w406 = w355 - 1u;
+                                p301 = p301 + 1u;
+                                p68 = (word)n357 & 255u;
+                                p65 = (p68 << 3) + (word)w36 + 1208u;
+                            } while (w355 > 2u);
                             w322 = load64(p284);
-                            if (load16((word)w322))
-                                break;
                         }
-                    L558:;
-                        if (load16((word)w322 + 2u) != 0u) {
-                            const u64 w453 = load64((word)w322 + 1208u);
-                            const word p552 = load_word(p307);
-                            if (load64(p552 + 32u) == 1u) {
-                                const word p339 = load_word(p552 + 24u);
-                                const u64 w394 = load64(p339 + 32u);
-                                if (load64(p339) + w394 == w322) {
-                                    store64(p339 + 32u, w394 + 1336u);
-                                }
-                            }
-                            const word p35 = p552 + 40u;
-                            store64(p35, load64(p35) - 1u);
-                            store64(p284, w453);
-                        }
+                        if (load16((word)w322) == 0u)
+                            goto L492;
+                        w347 = (word)w405 & 7u;
+                        w70 = 0u;
+                        if (w6 - 9u < 7u)
+                            break;
+                        const u64 w861 = w405 & 18446744073709551608ull;
+                        do {
+                            w70 = w70 + 8u;
+                        } while (w861 != w70);
+                        if (w347 != 0u)
+                            break;
+                        p8 = (word)w70 - 1u;
+                        goto L217;
                     }
-                } while (0);
+                L271:;
+                    w322 = load64(p284);
+                    if (load16((word)w322)) {
+                        store64(a1, 1u);
+                        store64(a1 + 32u, w495);
+                        store64(a1 + 24u, w52);
+                        store64(a1 + 16u, w116);
+                        store64(a1 + 8u, w136);
+                        store64(a1 + 40u, load64(frame + 112u));
+                        store64(a1 + 48u, load64(frame + 120u));
+                        store64(a1 + 56u, load64(frame + 128u));
+                        store64(a1 + 64u, load64(frame + 136u));
+                        store64(a1 + 72u, load64(frame + 144u));
+                        store64(a1 + 80u, load64(frame + 152u));
+                        return;
+                    }
+                }
+            L492:;
+                if (load16((word)w322 + 2u) == 0u) {
+                    store64(a1, 1u);
+                    store64(a1 + 32u, w495);
+                    store64(a1 + 24u, w52);
+                    store64(a1 + 16u, w116);
+                    store64(a1 + 8u, w136);
+                    store64(a1 + 40u, load64(frame + 112u));
+                    store64(a1 + 48u, load64(frame + 120u));
+                    store64(a1 + 56u, load64(frame + 128u));
+                    store64(a1 + 64u, load64(frame + 136u));
+                    store64(a1 + 72u, load64(frame + 144u));
+                    store64(a1 + 80u, load64(frame + 152u));
+                    return;
+                }
+                const u64 w453 = load64((word)w322 + 1208u);
+                const word p552 = load_word(p307);
+                if (load64(p552 + 32u) == 1u) {
+                    const word p339 = load_word(p552 + 24u);
+                    const u64 w394 = load64(p339 + 32u);
+                    if (load64(p339) + w394 == w322) {
+                        store64(p339 + 32u, w394 + 1336u);
+                    }
+                }
+                const word p35 = p552 + 40u;
+                store64(p35, load64(p35) - 1u);
+                store64(p284, w453);
                 store64(a1, 1u);
                 store64(a1 + 32u, w495);
                 store64(a1 + 24u, w52);
@@ -53868,7 +54608,6 @@ static void std_collections_btree_map_BTreeMap_insert(word a1, word a2, word a3,
                 store64(a1 + 80u, load64(frame + 152u));
                 return;
             } while (0);
-        L338:;
             p8 = (word)w70 + (word)w347 - 1u;
             do {
                 w347 = w347 - 1u;
@@ -53932,545 +54671,6 @@ L393:;
 
 /* std_collections::btree::node::Node::destroy: of a library of the compiler. */
 static void std_collections_btree_node_Node_destroy(u64 a1, word a2) {
-    u64 room[20];
-    const word frame = (word)room;
-    store64(frame + 40u, 15u);
-    store64(frame + 16u, 15u);
-    store64(frame + 72u, a1);
-    u64 w669 = a1 + 1328u;
-    store64(frame + 48u, w669);
-    store64(frame + 24u, a1 + 1208u);
-    store64(frame, a1 + 8u);
-    const u32 n984 = load16((word)a1 + 2u);
-    store64(frame + 64u, n984 ? 16u : 0u);
-    const u32 n342 = load16((word)a1);
-    u64 w636 = (word)n342 & 65535u;
-    store64(frame + 32u, w636);
-    store64(frame + 8u, w636);
-    store64(frame + 56u, n984 ? w636 + 1u : 0u);
-    if (n984) {
-        if (n342) {
-            do {
-                const word p669 = load_word(frame + 48u);
-                const u64 w767 = load64(p669);
-                u64 w68 = 0u;
-                const u64 w637 = load64(frame + 56u) - 1u;
-                u64 w638 = w637;
-                if (w637 >= 257u) {
-                    word p670 = p669;
-                    do {
-                        u64 w133 = 18446744073709549568ull;
-                        do {
-                            const word p596 = (word)w133 + p670;
-                            const word p894 = p596 + 2056u;
-                            store64(p596 + 2048u, load64(p894));
-                            const word p77 = p596 + 2064u;
-                            const u64 w840 = load64(p77);
-                            const word p423 = p596 + 2072u;
-                            store64(p77, load64(p423));
-                            store64(p894, w840);
-                            store64(p423, load64(p596 + 2080u));
-                            w133 = w133 + 32u;
-                        } while (w133 != 0u);
-                        p670 = p670 + 2048u;
-                        w68 = w68 + 256u;
-                        w638 = w637 - w68;
-                    } while (w638 > 256u);
-                }
-                const u64 w805 = load64(frame + 64u);
-                if (w68 != w637) {
-                    const u64 w156 = w638 << 3;
-                    if (w156 != 0u) {
-                        const word p563 = ((word)w68 << 3) + p669;
-                        copy(p563, p563 + 8u, (word)w156);
-                    }
-                }
-                store64(frame + 64u, w805);
-                store64(frame + 56u, w637);
-                std_collections_btree_node_Node_destroy(w767, a2);
-                fill(frame + 80u, 0u, 80u);
-                word p68 = 0u;
-                std_alloc_vec_Vec_remove(frame + 80u, frame, 0u);
-                const word p758 = load_word(frame + 24u);
-                word p227 = p758;
-                const u64 w351 = load64(frame + 32u) - 1u;
-                u64 w352 = w351;
-                u64 w69 = 0u;
-                if (w351 >= 257u) {
-                    word p759 = p758;
-                    do {
-                        u64 w133 = 18446744073709549568ull;
-                        do {
-                            const word p596 = (word)w133 + p759;
-                            const word p894 = p596 + 2056u;
-                            store64(p596 + 2048u, load64(p894));
-                            const word p77 = p596 + 2064u;
-                            const u64 w840 = load64(p77);
-                            const word p423 = p596 + 2072u;
-                            store64(p77, load64(p423));
-                            store64(p894, w840);
-                            store64(p423, load64(p596 + 2080u));
-                            w133 = w133 + 32u;
-                        } while (w133 != 0u);
-                        p759 = p759 + 2048u;
-                        w69 = w69 + 256u;
-                        w352 = w351 - w69;
-                    } while (w352 > 256u);
-                    p68 = (word)w69 << 3;
-                    p227 = p758 + p68;
-                }
-                do {
-                    if (w69 != w351) {
-                        u64 w510 = (word)w352 & 3u;
-                        u64 w70 = 0u;
-                        if (w352 - 1u >= 3u) {
-                            const word p228 = p758 + p68;
-                            const word p140 = (word)w352 & 508u;
-                            word p69 = 0u;
-                            do {
-                                const word p513 = p69 + p228;
-                                const word p596 = p69 + p227;
-                                store64(p513, load64(p596 + 8u));
-                                store64(p513 + 8u, load64(p596 + 16u));
-                                store64(p513 + 16u, load64(p596 + 24u));
-                                store64(p513 + 24u, load64(p596 + 32u));
-                                p69 = p69 + 32u;
-                                w70 = w70 + 4u;
-                            } while (p140 != w70);
-                            if (w510 == 0u)
-                                break;
-                        }
-                        const word p156 = (word)w70 << 3;
-                        word p619 = p156 + p68 + p758;
-                        word p672 = p156 + p227 + 8u;
-                        do {
-                            store64(p619, load64(p672));
-                            p619 = p619 + 8u;
-                            p672 = p672 + 8u;
-                            w510 = w510 - 1u;
-                        } while (w510 != 0u);
-                    }
-                } while (0);
-                store64(frame + 32u, w351);
-                const u64 w813 = load64(frame + 144u);
-                if (w813 != 0u) {
-                    const word p762 = load_word(frame + 152u);
-                    if (load64(p762 + 32u) == 1u) {
-                        const word p235 = load_word(p762 + 24u);
-                        const u64 w768 = load64(p235 + 32u);
-                        if (load64(p235) + w768 == load64(frame + 128u)) {
-                            store64(p235 + 32u, w768 + w813);
-                        }
-                    }
-                    const word p593 = p762 + 40u;
-                    store64(p593, load64(p593) - 1u);
-                }
-            } while (load64(frame + 8u) != 0u);
-            w636 = load64(frame + 56u) - 1u;
-            w669 = load64(frame + 48u);
-        }
-        const u64 w36 = load64((word)w669);
-        u64 w68 = 0u;
-        u64 w353 = w636;
-        if (w353 >= 257u) {
-            word p353 = (word)w669;
-            do {
-                u64 w133 = 18446744073709549568ull;
-                do {
-                    const word p596 = (word)w133 + p353;
-                    const word p894 = p596 + 2056u;
-                    store64(p596 + 2048u, load64(p894));
-                    const word p77 = p596 + 2064u;
-                    const u64 w840 = load64(p77);
-                    const word p423 = p596 + 2072u;
-                    store64(p77, load64(p423));
-                    store64(p894, w840);
-                    store64(p423, load64(p596 + 2080u));
-                    w133 = w133 + 32u;
-                } while (w133 != 0u);
-                p353 = p353 + 2048u;
-                w68 = w68 + 256u;
-                w353 = w636 - w68;
-            } while (w353 > 256u);
-        }
-        if (w68 != w636) {
-            const u64 w156 = w353 << 3;
-            if (w156 != 0u) {
-                const word p605 = ((word)w68 << 3) + (word)w669;
-                copy(p605, p605 + 8u, (word)w156);
-            }
-        }
-        std_collections_btree_node_Node_destroy(w36, a2);
-        const word p442 = load_word(a2);
-        const u64 w190 = load64(p442 + 32u);
-        const u64 w339 = load64(frame + 72u);
-        if (load16((word)w339 + 2u)) {
-            if (w190 == 1u) {
-                const word p418 = load_word(p442 + 24u);
-                const word p20 = p418 + 32u;
-                const u64 w248 = load64(p20);
-                if (load64(p418) + w248 == w339) {
-                    store64(p20, w248 + 1456u);
-                }
-            }
-            const word p731 = p442 + 40u;
-            store64(p731, load64(p731) - 1u);
-            return;
-        }
-        word p731;
-        if (w190 != 1u) {
-            p731 = p442 + 40u;
-            store64(p731, load64(p731) - 1u);
-            return;
-        }
-        const word p418 = load_word(p442 + 24u);
-        const word p20 = p418 + 32u;
-        const u64 w248 = load64(p20);
-        if (load64(p418) + w248 != w339) {
-            p731 = p442 + 40u;
-            store64(p731, load64(p731) - 1u);
-            return;
-        }
-        store64(p20, w248 + 1328u);
-        p731 = p442 + 40u;
-        store64(p731, load64(p731) - 1u);
-        return;
-    }
-    std_collections_btree_row_Row_reverse_i64(frame);
-    if (n342) {
-        u64 w236 = w636 * 80u;
-        do {
-            const word p401 = (word)w236 + (word)a1;
-            const u64 w939 = load64(p401 - 8u);
-            if (w939 != 0u) {
-                const word p971 = load_word(p401);
-                if (load64(p971 + 32u) == 1u) {
-                    const word p852 = load_word(p971 + 24u);
-                    const u64 w394 = load64(p852 + 32u);
-                    if (load64(p852) + w394 == load64(p401 - 24u)) {
-                        store64(p852 + 32u, w394 + w939);
-                    }
-                }
-                const word p655 = p971 + 40u;
-                store64(p655, load64(p655) - 1u);
-            }
-            w236 = w236 - 80u;
-        } while (w236 != 0u);
-    }
-    const word p442 = load_word(a2);
-    const u64 w190 = load64(p442 + 32u);
-    if (load16((word)a1 + 2u) == 0u) {
-        word p731;
-        if (w190 != 1u) {
-            p731 = p442 + 40u;
-            store64(p731, load64(p731) - 1u);
-            return;
-        }
-        const word p418 = load_word(p442 + 24u);
-        const word p20 = p418 + 32u;
-        const u64 w248 = load64(p20);
-        if (load64(p418) + w248 != a1) {
-            p731 = p442 + 40u;
-            store64(p731, load64(p731) - 1u);
-            return;
-        }
-        store64(p20, w248 + 1328u);
-        p731 = p442 + 40u;
-        store64(p731, load64(p731) - 1u);
-        return;
-    }
-    word p731;
-    if (w190 != 1u) {
-        p731 = p442 + 40u;
-        store64(p731, load64(p731) - 1u);
-        return;
-    }
-    const word p418 = load_word(p442 + 24u);
-    const word p20 = p418 + 32u;
-    const u64 w248 = load64(p20);
-    if (load64(p418) + w248 != a1) {
-        p731 = p442 + 40u;
-        store64(p731, load64(p731) - 1u);
-        return;
-    }
-    store64(p20, w248 + 1456u);
-    p731 = p442 + 40u;
-    store64(p731, load64(p731) - 1u);
-}
-
-/* std_collections::btree::node::Node::destroy, for other types: of a library of the compiler. */
-static void std_collections_btree_node_Node_destroy2(u64 a1, word a2) {
-    u64 room[10];
-    const word frame = (word)room;
-    store64(frame + 40u, 15u);
-    store64(frame + 16u, 15u);
-    store64(frame + 72u, a1);
-    const u64 w562 = a1 + 488u;
-    store64(frame + 48u, w562);
-    store64(frame + 24u, w562);
-    const u64 w847 = a1 + 8u;
-    store64(frame, w847);
-    const u32 n984 = load16((word)a1 + 2u);
-    store64(frame + 64u, n984 ? 16u : 0u);
-    const u32 n342 = load16((word)a1);
-    u64 w10 = (word)n342 & 65535u;
-    store64(frame + 32u, w10);
-    store64(frame + 8u, w10);
-    u64 w301 = w10 + 1u;
-    store64(frame + 56u, n984 ? w301 : 0u);
-    if (n984) {
-        if (n342) {
-            const word p212 = (word)a1 + 40u;
-            u64 w353;
-            do {
-                const u64 w42 = load64((word)w562);
-                u64 w68 = 0u;
-                w353 = w301;
-                w301 = w353 - 1u;
-                u64 w354 = w301;
-                if (w301 >= 257u) {
-                    word p509 = (word)a1;
-                    do {
-                        u64 w133 = 18446744073709549568ull;
-                        do {
-                            const word p596 = (word)w133 + p509;
-                            const word p177 = p596 + 2544u;
-                            store64(p596 + 2536u, load64(p177));
-                            const word p113 = p596 + 2552u;
-                            const u64 w397 = load64(p113);
-                            const word p91 = p596 + 2560u;
-                            store64(p113, load64(p91));
-                            store64(p177, w397);
-                            store64(p91, load64(p596 + 2568u));
-                            w133 = w133 + 32u;
-                        } while (w133 != 0u);
-                        p509 = p509 + 2048u;
-                        w68 = w68 + 256u;
-                        w354 = w301 - w68;
-                    } while (w354 > 256u);
-                }
-                if (w68 != w301) {
-                    const u64 w156 = w354 << 3;
-                    if (w156 != 0u) {
-                        const word p224 = ((word)w68 << 3) + (word)w562;
-                        copy(p224, p224 + 8u, (word)w156);
-                    }
-                }
-                std_collections_btree_node_Node_destroy2(w42, a2);
-                const word p448 = load_word((word)a1 + 32u);
-                const u64 w773 = load64((word)a1 + 24u);
-                const u64 w39 = load64((word)a1 + 8u);
-                word p68 = 0u;
-                word p51 = (word)w847;
-                w10 = w10 - 1u;
-                u64 w355 = w10;
-                u64 w69 = 0u;
-                if (w10 >= 65u) {
-                    word p509 = (word)a1;
-                    do {
-                        u64 w70 = 0u;
-                        do {
-                            const word p596 = (word)w70 + p509;
-                            const word p739 = p596 + 64u;
-                            store64(p596 + 32u, load64(p739));
-                            const word p422 = p596 + 56u;
-                            store64(p596 + 24u, load64(p422));
-                            const word p266 = p596 + 48u;
-                            store64(p596 + 16u, load64(p266));
-                            const word p308 = p596 + 40u;
-                            store64(p596 + 8u, load64(p308));
-                            store64(p308, load64(p596 + 72u));
-                            store64(p266, load64(p596 + 80u));
-                            store64(p422, load64(p596 + 88u));
-                            store64(p739, load64(p596 + 96u));
-                            w70 = w70 + 64u;
-                        } while (w70 != 2048u);
-                        p509 = p509 + 2048u;
-                        w69 = w69 + 64u;
-                        w355 = w10 - w69;
-                    } while (w355 > 64u);
-                    p68 = (word)w69 << 5;
-                    p51 = (word)w847 + p68;
-                }
-                do {
-                    if (w69 != w10) {
-                        u64 w70 = 0u;
-                        if (w355 != 1u) {
-                            const word p276 = (word)w355 & 1u;
-                            word p962 = p51 + 64u;
-                            word p490 = p68 + p212;
-                            const word p321 = (word)w355 & 126u;
-                            do {
-                                const word p658 = p490 - 32u;
-                                const word p659 = p962 - 32u;
-                                store64(p658 + 24u, load64(p659 + 24u));
-                                store64(p658 + 16u, load64(p659 + 16u));
-                                store64(p658 + 8u, load64(p659 + 8u));
-                                store64(p658, load64(p659));
-                                store64(p490, load64(p962));
-                                store64(p490 + 8u, load64(p962 + 8u));
-                                store64(p490 + 16u, load64(p962 + 16u));
-                                store64(p490 + 24u, load64(p962 + 24u));
-                                p962 = p962 + 64u;
-                                p490 = p490 + 64u;
-                                w70 = w70 + 2u;
-                            } while (p321 != w70);
-                            if (p276 == 0u)
-                                break;
-                        }
-                        const word p305 = (word)w70 << 5;
-                        const word p995 = (word)w847 + p68 + p305;
-                        const word p900 = p51 + 32u + p305;
-                        store64(p995 + 24u, load64(p900 + 24u));
-                        store64(p995 + 16u, load64(p900 + 16u));
-                        store64(p995 + 8u, load64(p900 + 8u));
-                        store64(p995, load64(p900));
-                    }
-                } while (0);
-                if (w773 != 0u) {
-                    if (load64(p448 + 32u) == 1u) {
-                        const word p809 = load_word(p448 + 24u);
-                        const u64 w767 = load64(p809 + 32u);
-                        if (load64(p809) + w767 == w39) {
-                            store64(p809 + 32u, w767 + w773);
-                        }
-                    }
-                    const word p922 = p448 + 40u;
-                    store64(p922, load64(p922) - 1u);
-                }
-            } while (w10 != 0u);
-            w10 = w353 - 2u;
-        }
-        const u64 w42 = load64((word)w562);
-        u64 w68 = 0u;
-        u64 w353 = w10;
-        if (w353 >= 257u) {
-            word p509 = (word)a1;
-            do {
-                u64 w133 = 18446744073709549568ull;
-                do {
-                    const word p596 = (word)w133 + p509;
-                    const word p177 = p596 + 2544u;
-                    store64(p596 + 2536u, load64(p177));
-                    const word p113 = p596 + 2552u;
-                    const u64 w397 = load64(p113);
-                    const word p91 = p596 + 2560u;
-                    store64(p113, load64(p91));
-                    store64(p177, w397);
-                    store64(p91, load64(p596 + 2568u));
-                    w133 = w133 + 32u;
-                } while (w133 != 0u);
-                p509 = p509 + 2048u;
-                w68 = w68 + 256u;
-                w353 = w10 - w68;
-            } while (w353 > 256u);
-        }
-        if (w68 != w10) {
-            const u64 w156 = w353 << 3;
-            if (w156 != 0u) {
-                const word p224 = ((word)w68 << 3) + (word)w562;
-                copy(p224, p224 + 8u, (word)w156);
-            }
-        }
-        std_collections_btree_node_Node_destroy2(w42, a2);
-        const word p442 = load_word(a2);
-        const u64 w190 = load64(p442 + 32u);
-        if (load16((word)a1 + 2u)) {
-            if (w190 == 1u) {
-                const word p418 = load_word(p442 + 24u);
-                const word p20 = p418 + 32u;
-                const u64 w248 = load64(p20);
-                if (load64(p418) + w248 == a1) {
-                    store64(p20, w248 + 616u);
-                }
-            }
-            const word p731 = p442 + 40u;
-            store64(p731, load64(p731) - 1u);
-            return;
-        }
-        word p731;
-        if (w190 != 1u) {
-            p731 = p442 + 40u;
-            store64(p731, load64(p731) - 1u);
-            return;
-        }
-        const word p418 = load_word(p442 + 24u);
-        const word p20 = p418 + 32u;
-        const u64 w248 = load64(p20);
-        if (load64(p418) + w248 != a1) {
-            p731 = p442 + 40u;
-            store64(p731, load64(p731) - 1u);
-            return;
-        }
-        store64(p20, w248 + 488u);
-        p731 = p442 + 40u;
-        store64(p731, load64(p731) - 1u);
-        return;
-    }
-    std_collections_btree_row_Row_reverse(frame);
-    if (n342) {
-        u64 w305 = w10 << 5;
-        do {
-            const word p401 = (word)w305 + (word)a1;
-            const u64 w939 = load64(p401 - 8u);
-            if (w939 != 0u) {
-                const word p971 = load_word(p401);
-                if (load64(p971 + 32u) == 1u) {
-                    const word p852 = load_word(p971 + 24u);
-                    const u64 w394 = load64(p852 + 32u);
-                    if (load64(p852) + w394 == load64(p401 - 24u)) {
-                        store64(p852 + 32u, w394 + w939);
-                    }
-                }
-                const word p655 = p971 + 40u;
-                store64(p655, load64(p655) - 1u);
-            }
-            w305 = w305 - 32u;
-        } while (w305 != 0u);
-    }
-    const word p442 = load_word(a2);
-    const u64 w190 = load64(p442 + 32u);
-    if (load16((word)a1 + 2u) == 0u) {
-        word p731;
-        if (w190 != 1u) {
-            p731 = p442 + 40u;
-            store64(p731, load64(p731) - 1u);
-            return;
-        }
-        const word p418 = load_word(p442 + 24u);
-        const word p20 = p418 + 32u;
-        const u64 w248 = load64(p20);
-        if (load64(p418) + w248 != a1) {
-            p731 = p442 + 40u;
-            store64(p731, load64(p731) - 1u);
-            return;
-        }
-        store64(p20, w248 + 488u);
-        p731 = p442 + 40u;
-        store64(p731, load64(p731) - 1u);
-        return;
-    }
-    word p731;
-    if (w190 != 1u) {
-        p731 = p442 + 40u;
-        store64(p731, load64(p731) - 1u);
-        return;
-    }
-    const word p418 = load_word(p442 + 24u);
-    const word p20 = p418 + 32u;
-    const u64 w248 = load64(p20);
-    if (load64(p418) + w248 != a1) {
-        p731 = p442 + 40u;
-        store64(p731, load64(p731) - 1u);
-        return;
-    }
-    store64(p20, w248 + 616u);
-    p731 = p442 + 40u;
-    store64(p731, load64(p731) - 1u);
-}
-
-/* std_collections::btree::node::Node::destroy, for other types: of a library of the compiler. */
-static void std_collections_btree_node_Node_destroy3(u64 a1, word a2) {
     u64 room[16];
     const word frame = (word)room;
     store64(frame + 40u, 15u);
@@ -54581,7 +54781,7 @@ static void std_collections_btree_node_Node_destroy3(u64 a1, word a2) {
                 }
                 store64(frame + 64u, w289);
                 store64(frame + 56u, w207);
-                std_collections_btree_node_Node_destroy3(w222, a2);
+                std_collections_btree_node_Node_destroy(w222, a2);
                 const word p163 = load_word(frame);
                 const word p81 = load_word(p163 + 24u);
                 const u64 w708 = load64(p163 + 16u);
@@ -54710,7 +54910,7 @@ static void std_collections_btree_node_Node_destroy3(u64 a1, word a2) {
                 copy(p605, p605 + 8u, (word)w156);
             }
         }
-        std_collections_btree_node_Node_destroy3(w36, a2);
+        std_collections_btree_node_Node_destroy(w36, a2);
         const word p442 = load_word(a2);
         const u64 w190 = load64(p442 + 32u);
         const u64 w202 = load64(frame + 72u);
@@ -54746,9 +54946,548 @@ static void std_collections_btree_node_Node_destroy3(u64 a1, word a2) {
         store64(p731, load64(p731) - 1u);
     }
 }
+
+/* std_collections::btree::node::Node::destroy, for other types: of a library of the compiler. */
+static void std_collections_btree_node_Node_destroy2(u64 a1, word a2) {
+    u64 room[20];
+    const word frame = (word)room;
+    store64(frame + 40u, 15u);
+    store64(frame + 16u, 15u);
+    store64(frame + 72u, a1);
+    u64 w669 = a1 + 1328u;
+    store64(frame + 48u, w669);
+    store64(frame + 24u, a1 + 1208u);
+    store64(frame, a1 + 8u);
+    const u32 n984 = load16((word)a1 + 2u);
+    store64(frame + 64u, n984 ? 16u : 0u);
+    const u32 n342 = load16((word)a1);
+    u64 w636 = (word)n342 & 65535u;
+    store64(frame + 32u, w636);
+    store64(frame + 8u, w636);
+    store64(frame + 56u, n984 ? w636 + 1u : 0u);
+    if (n984) {
+        if (n342) {
+            do {
+                const word p669 = load_word(frame + 48u);
+                const u64 w767 = load64(p669);
+                u64 w68 = 0u;
+                const u64 w637 = load64(frame + 56u) - 1u;
+                u64 w638 = w637;
+                if (w637 >= 257u) {
+                    word p670 = p669;
+                    do {
+                        u64 w133 = 18446744073709549568ull;
+                        do {
+                            const word p596 = (word)w133 + p670;
+                            const word p894 = p596 + 2056u;
+                            store64(p596 + 2048u, load64(p894));
+                            const word p77 = p596 + 2064u;
+                            const u64 w840 = load64(p77);
+                            const word p423 = p596 + 2072u;
+                            store64(p77, load64(p423));
+                            store64(p894, w840);
+                            store64(p423, load64(p596 + 2080u));
+                            w133 = w133 + 32u;
+                        } while (w133 != 0u);
+                        p670 = p670 + 2048u;
+                        w68 = w68 + 256u;
+                        w638 = w637 - w68;
+                    } while (w638 > 256u);
+                }
+                const u64 w805 = load64(frame + 64u);
+                if (w68 != w637) {
+                    const u64 w156 = w638 << 3;
+                    if (w156 != 0u) {
+                        const word p563 = ((word)w68 << 3) + p669;
+                        copy(p563, p563 + 8u, (word)w156);
+                    }
+                }
+                store64(frame + 64u, w805);
+                store64(frame + 56u, w637);
+                std_collections_btree_node_Node_destroy2(w767, a2);
+                fill(frame + 80u, 0u, 80u);
+                word p68 = 0u;
+                std_alloc_vec_Vec_remove(frame + 80u, frame, 0u);
+                const word p758 = load_word(frame + 24u);
+                word p227 = p758;
+                const u64 w351 = load64(frame + 32u) - 1u;
+                u64 w352 = w351;
+                u64 w69 = 0u;
+                if (w351 >= 257u) {
+                    word p759 = p758;
+                    do {
+                        u64 w133 = 18446744073709549568ull;
+                        do {
+                            const word p596 = (word)w133 + p759;
+                            const word p894 = p596 + 2056u;
+                            store64(p596 + 2048u, load64(p894));
+                            const word p77 = p596 + 2064u;
+                            const u64 w840 = load64(p77);
+                            const word p423 = p596 + 2072u;
+                            store64(p77, load64(p423));
+                            store64(p894, w840);
+                            store64(p423, load64(p596 + 2080u));
+                            w133 = w133 + 32u;
+                        } while (w133 != 0u);
+                        p759 = p759 + 2048u;
+                        w69 = w69 + 256u;
+                        w352 = w351 - w69;
+                    } while (w352 > 256u);
+                    p68 = (word)w69 << 3;
+                    p227 = p758 + p68;
+                }
+                do {
+                    if (w69 != w351) {
+                        u64 w510 = (word)w352 & 3u;
+                        u64 w70 = 0u;
+                        if (w352 - 1u >= 3u) {
+                            const word p228 = p758 + p68;
+                            const word p140 = (word)w352 & 508u;
+                            word p69 = 0u;
+                            do {
+                                const word p513 = p69 + p228;
+                                const word p596 = p69 + p227;
+                                store64(p513, load64(p596 + 8u));
+                                store64(p513 + 8u, load64(p596 + 16u));
+                                store64(p513 + 16u, load64(p596 + 24u));
+                                store64(p513 + 24u, load64(p596 + 32u));
+                                p69 = p69 + 32u;
+                                w70 = w70 + 4u;
+                            } while (p140 != w70);
+                            if (w510 == 0u)
+                                break;
+                        }
+                        const word p156 = (word)w70 << 3;
+                        word p619 = p156 + p68 + p758;
+                        word p672 = p156 + p227 + 8u;
+                        do {
+                            store64(p619, load64(p672));
+                            p619 = p619 + 8u;
+                            p672 = p672 + 8u;
+                            w510 = w510 - 1u;
+                        } while (w510 != 0u);
+                    }
+                } while (0);
+                store64(frame + 32u, w351);
+                const u64 w813 = load64(frame + 144u);
+                if (w813 != 0u) {
+                    const word p762 = load_word(frame + 152u);
+                    if (load64(p762 + 32u) == 1u) {
+                        const word p235 = load_word(p762 + 24u);
+                        const u64 w768 = load64(p235 + 32u);
+                        if (load64(p235) + w768 == load64(frame + 128u)) {
+                            store64(p235 + 32u, w768 + w813);
+                        }
+                    }
+                    const word p593 = p762 + 40u;
+                    store64(p593, load64(p593) - 1u);
+                }
+            } while (load64(frame + 8u) != 0u);
+            w636 = load64(frame + 56u) - 1u;
+            w669 = load64(frame + 48u);
+        }
+        const u64 w36 = load64((word)w669);
+        u64 w68 = 0u;
+        u64 w353 = w636;
+        if (w353 >= 257u) {
+            word p353 = (word)w669;
+            do {
+                u64 w133 = 18446744073709549568ull;
+                do {
+                    const word p596 = (word)w133 + p353;
+                    const word p894 = p596 + 2056u;
+                    store64(p596 + 2048u, load64(p894));
+                    const word p77 = p596 + 2064u;
+                    const u64 w840 = load64(p77);
+                    const word p423 = p596 + 2072u;
+                    store64(p77, load64(p423));
+                    store64(p894, w840);
+                    store64(p423, load64(p596 + 2080u));
+                    w133 = w133 + 32u;
+                } while (w133 != 0u);
+                p353 = p353 + 2048u;
+                w68 = w68 + 256u;
+                w353 = w636 - w68;
+            } while (w353 > 256u);
+        }
+        if (w68 != w636) {
+            const u64 w156 = w353 << 3;
+            if (w156 != 0u) {
+                const word p605 = ((word)w68 << 3) + (word)w669;
+                copy(p605, p605 + 8u, (word)w156);
+            }
+        }
+        std_collections_btree_node_Node_destroy2(w36, a2);
+        const word p442 = load_word(a2);
+        const u64 w190 = load64(p442 + 32u);
+        const u64 w339 = load64(frame + 72u);
+        if (load16((word)w339 + 2u)) {
+            if (w190 == 1u) {
+                const word p418 = load_word(p442 + 24u);
+                const word p20 = p418 + 32u;
+                const u64 w248 = load64(p20);
+                if (load64(p418) + w248 == w339) {
+                    store64(p20, w248 + 1456u);
+                }
+            }
+            const word p731 = p442 + 40u;
+            store64(p731, load64(p731) - 1u);
+            return;
+        }
+        word p731;
+        if (w190 != 1u) {
+            p731 = p442 + 40u;
+            store64(p731, load64(p731) - 1u);
+            return;
+        }
+        const word p418 = load_word(p442 + 24u);
+        const word p20 = p418 + 32u;
+        const u64 w248 = load64(p20);
+        if (load64(p418) + w248 != w339) {
+            p731 = p442 + 40u;
+            store64(p731, load64(p731) - 1u);
+            return;
+        }
+        store64(p20, w248 + 1328u);
+        p731 = p442 + 40u;
+        store64(p731, load64(p731) - 1u);
+        return;
+    }
+    std_collections_btree_row_Row_reverse_i64(frame);
+    if (n342) {
+        u64 w236 = w636 * 80u;
+        do {
+            const word p401 = (word)w236 + (word)a1;
+            const u64 w939 = load64(p401 - 8u);
+            if (w939 != 0u) {
+                const word p971 = load_word(p401);
+                if (load64(p971 + 32u) == 1u) {
+                    const word p852 = load_word(p971 + 24u);
+                    const u64 w394 = load64(p852 + 32u);
+                    if (load64(p852) + w394 == load64(p401 - 24u)) {
+                        store64(p852 + 32u, w394 + w939);
+                    }
+                }
+                const word p655 = p971 + 40u;
+                store64(p655, load64(p655) - 1u);
+            }
+            w236 = w236 - 80u;
+        } while (w236 != 0u);
+    }
+    const word p442 = load_word(a2);
+    const u64 w190 = load64(p442 + 32u);
+    if (load16((word)a1 + 2u) == 0u) {
+        word p731;
+        if (w190 != 1u) {
+            p731 = p442 + 40u;
+            store64(p731, load64(p731) - 1u);
+            return;
+        }
+        const word p418 = load_word(p442 + 24u);
+        const word p20 = p418 + 32u;
+        const u64 w248 = load64(p20);
+        if (load64(p418) + w248 != a1) {
+            p731 = p442 + 40u;
+            store64(p731, load64(p731) - 1u);
+            return;
+        }
+        store64(p20, w248 + 1328u);
+        p731 = p442 + 40u;
+        store64(p731, load64(p731) - 1u);
+        return;
+    }
+    word p731;
+    if (w190 != 1u) {
+        p731 = p442 + 40u;
+        store64(p731, load64(p731) - 1u);
+        return;
+    }
+    const word p418 = load_word(p442 + 24u);
+    const word p20 = p418 + 32u;
+    const u64 w248 = load64(p20);
+    if (load64(p418) + w248 != a1) {
+        p731 = p442 + 40u;
+        store64(p731, load64(p731) - 1u);
+        return;
+    }
+    store64(p20, w248 + 1456u);
+    p731 = p442 + 40u;
+    store64(p731, load64(p731) - 1u);
+}
+
+/* std_collections::btree::node::Node::destroy, for other types: of a library of the compiler. */
+static void std_collections_btree_node_Node_destroy3(u64 a1, word a2) {
+    u64 room[10];
+    const word frame = (word)room;
+    store64(frame + 40u, 15u);
+    store64(frame + 16u, 15u);
+    store64(frame + 72u, a1);
+    const u64 w562 = a1 + 488u;
+    store64(frame + 48u, w562);
+    store64(frame + 24u, w562);
+    const u64 w847 = a1 + 8u;
+    store64(frame, w847);
+    const u32 n984 = load16((word)a1 + 2u);
+    store64(frame + 64u, n984 ? 16u : 0u);
+    const u32 n342 = load16((word)a1);
+    u64 w10 = (word)n342 & 65535u;
+    store64(frame + 32u, w10);
+    store64(frame + 8u, w10);
+    u64 w301 = w10 + 1u;
+    store64(frame + 56u, n984 ? w301 : 0u);
+    if (n984) {
+        if (n342) {
+            const word p212 = (word)a1 + 40u;
+            u64 w353;
+            do {
+                const u64 w42 = load64((word)w562);
+                u64 w68 = 0u;
+                w353 = w301;
+                w301 = w353 - 1u;
+                u64 w354 = w301;
+                if (w301 >= 257u) {
+                    word p509 = (word)a1;
+                    do {
+                        u64 w133 = 18446744073709549568ull;
+                        do {
+                            const word p596 = (word)w133 + p509;
+                            const word p177 = p596 + 2544u;
+                            store64(p596 + 2536u, load64(p177));
+                            const word p113 = p596 + 2552u;
+                            const u64 w397 = load64(p113);
+                            const word p91 = p596 + 2560u;
+                            store64(p113, load64(p91));
+                            store64(p177, w397);
+                            store64(p91, load64(p596 + 2568u));
+                            w133 = w133 + 32u;
+                        } while (w133 != 0u);
+                        p509 = p509 + 2048u;
+                        w68 = w68 + 256u;
+                        w354 = w301 - w68;
+                    } while (w354 > 256u);
+                }
+                if (w68 != w301) {
+                    const u64 w156 = w354 << 3;
+                    if (w156 != 0u) {
+                        const word p224 = ((word)w68 << 3) + (word)w562;
+                        copy(p224, p224 + 8u, (word)w156);
+                    }
+                }
+                std_collections_btree_node_Node_destroy3(w42, a2);
+                const word p448 = load_word((word)a1 + 32u);
+                const u64 w773 = load64((word)a1 + 24u);
+                const u64 w39 = load64((word)a1 + 8u);
+                word p68 = 0u;
+                word p51 = (word)w847;
+                w10 = w10 - 1u;
+                u64 w355 = w10;
+                u64 w69 = 0u;
+                if (w10 >= 65u) {
+                    word p509 = (word)a1;
+                    do {
+                        u64 w70 = 0u;
+                        do {
+                            const word p596 = (word)w70 + p509;
+                            const word p739 = p596 + 64u;
+                            store64(p596 + 32u, load64(p739));
+                            const word p422 = p596 + 56u;
+                            store64(p596 + 24u, load64(p422));
+                            const word p266 = p596 + 48u;
+                            store64(p596 + 16u, load64(p266));
+                            const word p308 = p596 + 40u;
+                            store64(p596 + 8u, load64(p308));
+                            store64(p308, load64(p596 + 72u));
+                            store64(p266, load64(p596 + 80u));
+                            store64(p422, load64(p596 + 88u));
+                            store64(p739, load64(p596 + 96u));
+                            w70 = w70 + 64u;
+                        } while (w70 != 2048u);
+                        p509 = p509 + 2048u;
+                        w69 = w69 + 64u;
+                        w355 = w10 - w69;
+                    } while (w355 > 64u);
+                    p68 = (word)w69 << 5;
+                    p51 = (word)w847 + p68;
+                }
+                do {
+                    if (w69 != w10) {
+                        u64 w70 = 0u;
+                        if (w355 != 1u) {
+                            const word p276 = (word)w355 & 1u;
+                            word p962 = p51 + 64u;
+                            word p490 = p68 + p212;
+                            const word p321 = (word)w355 & 126u;
+                            do {
+                                const word p658 = p490 - 32u;
+                                const word p659 = p962 - 32u;
+                                store64(p658 + 24u, load64(p659 + 24u));
+                                store64(p658 + 16u, load64(p659 + 16u));
+                                store64(p658 + 8u, load64(p659 + 8u));
+                                store64(p658, load64(p659));
+                                store64(p490, load64(p962));
+                                store64(p490 + 8u, load64(p962 + 8u));
+                                store64(p490 + 16u, load64(p962 + 16u));
+                                store64(p490 + 24u, load64(p962 + 24u));
+                                p962 = p962 + 64u;
+                                p490 = p490 + 64u;
+                                w70 = w70 + 2u;
+                            } while (p321 != w70);
+                            if (p276 == 0u)
+                                break;
+                        }
+                        const word p305 = (word)w70 << 5;
+                        const word p995 = (word)w847 + p68 + p305;
+                        const word p900 = p51 + 32u + p305;
+                        store64(p995 + 24u, load64(p900 + 24u));
+                        store64(p995 + 16u, load64(p900 + 16u));
+                        store64(p995 + 8u, load64(p900 + 8u));
+                        store64(p995, load64(p900));
+                    }
+                } while (0);
+                if (w773 != 0u) {
+                    if (load64(p448 + 32u) == 1u) {
+                        const word p809 = load_word(p448 + 24u);
+                        const u64 w767 = load64(p809 + 32u);
+                        if (load64(p809) + w767 == w39) {
+                            store64(p809 + 32u, w767 + w773);
+                        }
+                    }
+                    const word p922 = p448 + 40u;
+                    store64(p922, load64(p922) - 1u);
+                }
+            } while (w10 != 0u);
+            w10 = w353 - 2u;
+        }
+        const u64 w42 = load64((word)w562);
+        u64 w68 = 0u;
+        u64 w353 = w10;
+        if (w353 >= 257u) {
+            word p509 = (word)a1;
+            do {
+                u64 w133 = 18446744073709549568ull;
+                do {
+                    const word p596 = (word)w133 + p509;
+                    const word p177 = p596 + 2544u;
+                    store64(p596 + 2536u, load64(p177));
+                    const word p113 = p596 + 2552u;
+                    const u64 w397 = load64(p113);
+                    const word p91 = p596 + 2560u;
+                    store64(p113, load64(p91));
+                    store64(p177, w397);
+                    store64(p91, load64(p596 + 2568u));
+                    w133 = w133 + 32u;
+                } while (w133 != 0u);
+                p509 = p509 + 2048u;
+                w68 = w68 + 256u;
+                w353 = w10 - w68;
+            } while (w353 > 256u);
+        }
+        if (w68 != w10) {
+            const u64 w156 = w353 << 3;
+            if (w156 != 0u) {
+                const word p224 = ((word)w68 << 3) + (word)w562;
+                copy(p224, p224 + 8u, (word)w156);
+            }
+        }
+        std_collections_btree_node_Node_destroy3(w42, a2);
+        const word p442 = load_word(a2);
+        const u64 w190 = load64(p442 + 32u);
+        if (load16((word)a1 + 2u)) {
+            if (w190 == 1u) {
+                const word p418 = load_word(p442 + 24u);
+                const word p20 = p418 + 32u;
+                const u64 w248 = load64(p20);
+                if (load64(p418) + w248 == a1) {
+                    store64(p20, w248 + 616u);
+                }
+            }
+            const word p731 = p442 + 40u;
+            store64(p731, load64(p731) - 1u);
+            return;
+        }
+        word p731;
+        if (w190 != 1u) {
+            p731 = p442 + 40u;
+            store64(p731, load64(p731) - 1u);
+            return;
+        }
+        const word p418 = load_word(p442 + 24u);
+        const word p20 = p418 + 32u;
+        const u64 w248 = load64(p20);
+        if (load64(p418) + w248 != a1) {
+            p731 = p442 + 40u;
+            store64(p731, load64(p731) - 1u);
+            return;
+        }
+        store64(p20, w248 + 488u);
+        p731 = p442 + 40u;
+        store64(p731, load64(p731) - 1u);
+        return;
+    }
+    std_collections_btree_row_Row_reverse(frame);
+    if (n342) {
+        u64 w305 = w10 << 5;
+        do {
+            const word p401 = (word)w305 + (word)a1;
+            const u64 w939 = load64(p401 - 8u);
+            if (w939 != 0u) {
+                const word p971 = load_word(p401);
+                if (load64(p971 + 32u) == 1u) {
+                    const word p852 = load_word(p971 + 24u);
+                    const u64 w394 = load64(p852 + 32u);
+                    if (load64(p852) + w394 == load64(p401 - 24u)) {
+                        store64(p852 + 32u, w394 + w939);
+                    }
+                }
+                const word p655 = p971 + 40u;
+                store64(p655, load64(p655) - 1u);
+            }
+            w305 = w305 - 32u;
+        } while (w305 != 0u);
+    }
+    const word p442 = load_word(a2);
+    const u64 w190 = load64(p442 + 32u);
+    if (load16((word)a1 + 2u) == 0u) {
+        word p731;
+        if (w190 != 1u) {
+            p731 = p442 + 40u;
+            store64(p731, load64(p731) - 1u);
+            return;
+        }
+        const word p418 = load_word(p442 + 24u);
+        const word p20 = p418 + 32u;
+        const u64 w248 = load64(p20);
+        if (load64(p418) + w248 != a1) {
+            p731 = p442 + 40u;
+            store64(p731, load64(p731) - 1u);
+            return;
+        }
+        store64(p20, w248 + 488u);
+        p731 = p442 + 40u;
+        store64(p731, load64(p731) - 1u);
+        return;
+    }
+    word p731;
+    if (w190 != 1u) {
+        p731 = p442 + 40u;
+        store64(p731, load64(p731) - 1u);
+        return;
+    }
+    const word p418 = load_word(p442 + 24u);
+    const word p20 = p418 + 32u;
+    const u64 w248 = load64(p20);
+    if (load64(p418) + w248 != a1) {
+        p731 = p442 + 40u;
+        store64(p731, load64(p731) - 1u);
+        return;
+    }
+    store64(p20, w248 + 616u);
+    p731 = p442 + 40u;
+    store64(p731, load64(p731) - 1u);
+}
 #endif
 
-#if UNITS & 0x40
+#if UNITS & 0x20
 
 /* std_collections::btree::node::Node::destroy, for other types: of a library of the compiler. */
 static void std_collections_btree_node_Node_destroy4(u64 a1, word a2) {
@@ -55568,110 +56307,170 @@ static void std_collections_btree_node_Node_destroy6(u64 a1, word a2) {
 }
 #endif
 
-#if UNITS & 0x20
+#if UNITS & 0x40
 
 /* std_collections::btree::node::parts::Parts::new: of a library of the compiler. */
 static void std_collections_btree_node_parts_Parts_new(word a1, word a2, u64 a3) {
     u64 room[4];
     const word frame = (word)room;
+    const word p442 = load_word(a2);
+    const u64 w190 = load64(p442 + 32u);
     u64 w68;
     u32 n216;
     word p68;
-    u64 w69;
     u64 w353;
+    u64 w69;
     word p69;
-    do {
-        word p70;
+    word p70;
+    word p353;
+    word p71;
+    if (a3 == 0u) {
+        u32 n375;
+        u64 w760;
         do {
-            {
-                const word p442 = load_word(a2);
-                const u64 w190 = load64(p442 + 32u);
-                word p71;
-                if (a3 == 0u) {
-                    u32 n375;
-                    u64 w760;
-                    do {
-                        if (w190 != 0u) {
-                            const word p418 = load_word(p442 + 24u);
-                            const word p20 = p418 + 32u;
-                            const u64 w248 = load64(p20);
-                            if (w248 >= 488u) {
-                                const u64 w66 = (w248 & 18446744073709551608ull) - 488u;
-                                store64(p20, w66);
-                                n375 = 1u;
-                                w760 = load64(p418) + w66;
-                                break;
-                            }
-                        }
-                        bumpalo_bump_Bump_alloc_layout_slow(frame, p442, 488u, 8u);
-                        n375 = load8(frame);
-                        w760 = load64(frame + 8u);
-                    } while (0);
-                    w68 = w760;
-                    n216 = 1u;
-                    p70 = 0u;
-                    if ((n375 & 1u) == 0u)
-                        break;
-                    const word p731 = p442 + 40u;
-                    const u64 w435 = load64(p731);
-                    if (w435 == 18446744073709551615ull)
-                        goto L131;
-                    store64(p731, w435 + 1u);
-                    p71 = 0u;
-                } else {
-                    u32 n375;
-                    u64 w239;
-                    do {
-                        if (w190 != 0u) {
-                            const word p418 = load_word(p442 + 24u);
-                            const word p20 = p418 + 32u;
-                            const u64 w248 = load64(p20);
-                            if (w248 >= 616u) {
-                                const u64 w489 = (w248 & 18446744073709551608ull) - 616u;
-                                store64(p20, w489);
-                                n375 = 1u;
-                                w239 = load64(p418) + w489;
-                                break;
-                            }
-                        }
-                        bumpalo_bump_Bump_alloc_layout_slow(frame + 16u, p442, 616u, 8u);
-                        n375 = load8(frame + 16u);
-                        w239 = load64(frame + 24u);
-                    } while (0);
-                    w68 = w239;
-                    n216 = 1u;
-                    p70 = 0u;
-                    if ((n375 & 1u) == 0u)
-                        break;
-                    const word p731 = p442 + 40u;
-                    const u64 w435 = load64(p731);
-                    if (w435 == 18446744073709551615ull)
-                        goto L131;
-                    store64(p731, w435 + 1u);
-                    p71 = 16u;
+            if (w190 != 0u) {
+                const word p418 = load_word(p442 + 24u);
+                const word p20 = p418 + 32u;
+                const u64 w248 = load64(p20);
+                if (w248 >= 488u) {
+                    const u64 w66 = (w248 & 18446744073709551608ull) - 488u;
+                    store64(p20, w66);
+                    n375 = 1u;
+                    w760 = load64(p418) + w66;
+                    break;
                 }
-                p68 = p71;
-                store16((word)w68 + 2u, (u32)(word)a3);
-                w69 = w68 + 488u;
-                w353 = w68 + 8u;
-                n216 = 0u;
-                p69 = 15u;
-                goto L753;
             }
-        L131:;
-            p70 = 0u;
+            bumpalo_bump_Bump_alloc_layout_slow(frame, p442, 488u, 8u);
+            n375 = load8(frame);
+            w760 = load64(frame + 8u);
         } while (0);
-        w353 = p70;
-        w69 = 0u;
+        w68 = w760;
+        n216 = 1u;
         p68 = 0u;
-        w68 = 0u;
-        p69 = 0u;
-    } while (0);
-L753:;
-    const word p353 = p69;
+        if ((n375 & 1u) == 0u) {
+            w353 = p68;
+            w69 = 0u;
+            p69 = 0u;
+            w68 = 0u;
+            p70 = 0u;
+            p353 = p70;
+            store8(a1, n216);
+            store64(a1 + 80u, w68);
+            store64(a1 + 72u, p69);
+            store64(a1 + 64u, 0u);
+            store64(a1 + 56u, w69);
+            store64(a1 + 48u, p353);
+            store64(a1 + 40u, 0u);
+            store64(a1 + 32u, w69);
+            store64(a1 + 24u, p353);
+            store64(a1 + 16u, 0u);
+            store64(a1 + 8u, w353);
+            return;
+        }
+        const word p731 = p442 + 40u;
+        const u64 w435 = load64(p731);
+        if (w435 == 18446744073709551615ull) {
+            p68 = 0u;
+            w353 = p68;
+            w69 = 0u;
+            p69 = 0u;
+            w68 = 0u;
+            p70 = 0u;
+            p353 = p70;
+            store8(a1, n216);
+            store64(a1 + 80u, w68);
+            store64(a1 + 72u, p69);
+            store64(a1 + 64u, 0u);
+            store64(a1 + 56u, w69);
+            store64(a1 + 48u, p353);
+            store64(a1 + 40u, 0u);
+            store64(a1 + 32u, w69);
+            store64(a1 + 24u, p353);
+            store64(a1 + 16u, 0u);
+            store64(a1 + 8u, w353);
+            return;
+        }
+        store64(p731, w435 + 1u);
+        p71 = 0u;
+    } else {
+        u32 n375;
+        u64 w239;
+        do {
+            if (w190 != 0u) {
+                const word p418 = load_word(p442 + 24u);
+                const word p20 = p418 + 32u;
+                const u64 w248 = load64(p20);
+                if (w248 >= 616u) {
+                    const u64 w489 = (w248 & 18446744073709551608ull) - 616u;
+                    store64(p20, w489);
+                    n375 = 1u;
+                    w239 = load64(p418) + w489;
+                    break;
+                }
+            }
+            bumpalo_bump_Bump_alloc_layout_slow(frame + 16u, p442, 616u, 8u);
+            n375 = load8(frame + 16u);
+            w239 = load64(frame + 24u);
+        } while (0);
+        w68 = w239;
+        n216 = 1u;
+        p68 = 0u;
+        if ((n375 & 1u) == 0u) {
+            w353 = p68;
+            w69 = 0u;
+            p69 = 0u;
+            w68 = 0u;
+            p70 = 0u;
+            p353 = p70;
+            store8(a1, n216);
+            store64(a1 + 80u, w68);
+            store64(a1 + 72u, p69);
+            store64(a1 + 64u, 0u);
+            store64(a1 + 56u, w69);
+            store64(a1 + 48u, p353);
+            store64(a1 + 40u, 0u);
+            store64(a1 + 32u, w69);
+            store64(a1 + 24u, p353);
+            store64(a1 + 16u, 0u);
+            store64(a1 + 8u, w353);
+            return;
+        }
+        const word p731 = p442 + 40u;
+        const u64 w435 = load64(p731);
+        if (w435 == 18446744073709551615ull) {
+            p68 = 0u;
+            w353 = p68;
+            w69 = 0u;
+            p69 = 0u;
+            w68 = 0u;
+            p70 = 0u;
+            p353 = p70;
+            store8(a1, n216);
+            store64(a1 + 80u, w68);
+            store64(a1 + 72u, p69);
+            store64(a1 + 64u, 0u);
+            store64(a1 + 56u, w69);
+            store64(a1 + 48u, p353);
+            store64(a1 + 40u, 0u);
+            store64(a1 + 32u, w69);
+            store64(a1 + 24u, p353);
+            store64(a1 + 16u, 0u);
+            store64(a1 + 8u, w353);
+            return;
+        }
+        store64(p731, w435 + 1u);
+        p71 = 16u;
+    }
+    p69 = p71;
+    store16((word)w68 + 2u, (u32)(word)a3);
+    w69 = w68 + 488u;
+    w353 = w68 + 8u;
+    n216 = 0u;
+    p70 = 15u;
+    p353 = p70;
     store8(a1, n216);
     store64(a1 + 80u, w68);
-    store64(a1 + 72u, p68);
+    store64(a1 + 72u, p69);
     store64(a1 + 64u, 0u);
     store64(a1 + 56u, w69);
     store64(a1 + 48u, p353);
@@ -55683,109 +56482,169 @@ L753:;
 }
 
 /* std_collections::btree::node::parts::Parts::new, for other types: of a library of the compiler. */
-static void std_collections_btree_node_parts_Parts_new2(word a1, word a2, u64 a3) {
+INTERNAL void std_collections_btree_node_parts_Parts_new2(word a1, word a2, u64 a3) {
     u64 room[4];
     const word frame = (word)room;
     u64 w68 = 0u;
+    const word p442 = load_word(a2);
+    const u64 w190 = load64(p442 + 32u);
     u64 w69;
     u32 n216;
     word p68;
-    u64 w70;
     u64 w353;
+    u64 w70;
     word p69;
-    do {
-        word p70;
+    word p70;
+    word p353;
+    word p71;
+    if (a3 == 0u) {
+        u32 n375;
+        u64 w606;
         do {
-            {
-                const word p442 = load_word(a2);
-                const u64 w190 = load64(p442 + 32u);
-                word p71;
-                if (a3 == 0u) {
-                    u32 n375;
-                    u64 w606;
-                    do {
-                        if (w190 != 0u) {
-                            const word p418 = load_word(p442 + 24u);
-                            const word p20 = p418 + 32u;
-                            const u64 w248 = load64(p20);
-                            if (w248 >= 1328u) {
-                                const u64 w186 = (w248 & 18446744073709551608ull) - 1328u;
-                                store64(p20, w186);
-                                n375 = 1u;
-                                w606 = load64(p418) + w186;
-                                break;
-                            }
-                        }
-                        bumpalo_bump_Bump_alloc_layout_slow(frame, p442, 1328u, 8u);
-                        n375 = load8(frame);
-                        w606 = load64(frame + 8u);
-                    } while (0);
-                    w69 = w606;
-                    n216 = 1u;
-                    p70 = 0u;
-                    if ((n375 & 1u) == 0u)
-                        break;
-                    const word p731 = p442 + 40u;
-                    const u64 w435 = load64(p731);
-                    if (w435 == 18446744073709551615ull)
-                        goto L131;
-                    store64(p731, w435 + 1u);
-                    p71 = 0u;
-                } else {
-                    u32 n375;
-                    u64 w416;
-                    do {
-                        if (w190 != 0u) {
-                            const word p418 = load_word(p442 + 24u);
-                            const word p20 = p418 + 32u;
-                            const u64 w248 = load64(p20);
-                            if (w248 >= 1456u) {
-                                const u64 w292 = (w248 & 18446744073709551608ull) - 1456u;
-                                store64(p20, w292);
-                                n375 = 1u;
-                                w416 = load64(p418) + w292;
-                                break;
-                            }
-                        }
-                        bumpalo_bump_Bump_alloc_layout_slow(frame + 16u, p442, 1456u, 8u);
-                        n375 = load8(frame + 16u);
-                        w416 = load64(frame + 24u);
-                    } while (0);
-                    w69 = w416;
-                    n216 = 1u;
-                    p70 = 0u;
-                    if ((n375 & 1u) == 0u)
-                        break;
-                    const word p731 = p442 + 40u;
-                    const u64 w435 = load64(p731);
-                    if (w435 == 18446744073709551615ull)
-                        goto L131;
-                    store64(p731, w435 + 1u);
-                    p71 = 16u;
+            if (w190 != 0u) {
+                const word p418 = load_word(p442 + 24u);
+                const word p20 = p418 + 32u;
+                const u64 w248 = load64(p20);
+                if (w248 >= 1328u) {
+                    const u64 w186 = (w248 & 18446744073709551608ull) - 1328u;
+                    store64(p20, w186);
+                    n375 = 1u;
+                    w606 = load64(p418) + w186;
+                    break;
                 }
-                p68 = p71;
-                store16((word)w69 + 2u, (u32)(word)a3);
-                w68 = w69 + 1328u;
-                w70 = w69 + 1208u;
-                w353 = w69 + 8u;
-                n216 = 0u;
-                p69 = 15u;
-                goto L753;
             }
-        L131:;
-            p70 = 0u;
+            bumpalo_bump_Bump_alloc_layout_slow(frame, p442, 1328u, 8u);
+            n375 = load8(frame);
+            w606 = load64(frame + 8u);
         } while (0);
-        w353 = p70;
-        w70 = 0u;
+        w69 = w606;
+        n216 = 1u;
         p68 = 0u;
-        w69 = 0u;
-        p69 = 0u;
-    } while (0);
-L753:;
-    const word p353 = p69;
+        if ((n375 & 1u) == 0u) {
+            w353 = p68;
+            w70 = 0u;
+            p69 = 0u;
+            w69 = 0u;
+            p70 = 0u;
+            p353 = p70;
+            store8(a1, n216);
+            store64(a1 + 80u, w69);
+            store64(a1 + 72u, p69);
+            store64(a1 + 64u, 0u);
+            store64(a1 + 56u, w68);
+            store64(a1 + 48u, p353);
+            store64(a1 + 40u, 0u);
+            store64(a1 + 32u, w70);
+            store64(a1 + 24u, p353);
+            store64(a1 + 16u, 0u);
+            store64(a1 + 8u, w353);
+            return;
+        }
+        const word p731 = p442 + 40u;
+        const u64 w435 = load64(p731);
+        if (w435 == 18446744073709551615ull) {
+            p68 = 0u;
+            w353 = p68;
+            w70 = 0u;
+            p69 = 0u;
+            w69 = 0u;
+            p70 = 0u;
+            p353 = p70;
+            store8(a1, n216);
+            store64(a1 + 80u, w69);
+            store64(a1 + 72u, p69);
+            store64(a1 + 64u, 0u);
+            store64(a1 + 56u, w68);
+            store64(a1 + 48u, p353);
+            store64(a1 + 40u, 0u);
+            store64(a1 + 32u, w70);
+            store64(a1 + 24u, p353);
+            store64(a1 + 16u, 0u);
+            store64(a1 + 8u, w353);
+            return;
+        }
+        store64(p731, w435 + 1u);
+        p71 = 0u;
+    } else {
+        u32 n375;
+        u64 w416;
+        do {
+            if (w190 != 0u) {
+                const word p418 = load_word(p442 + 24u);
+                const word p20 = p418 + 32u;
+                const u64 w248 = load64(p20);
+                if (w248 >= 1456u) {
+                    const u64 w292 = (w248 & 18446744073709551608ull) - 1456u;
+                    store64(p20, w292);
+                    n375 = 1u;
+                    w416 = load64(p418) + w292;
+                    break;
+                }
+            }
+            bumpalo_bump_Bump_alloc_layout_slow(frame + 16u, p442, 1456u, 8u);
+            n375 = load8(frame + 16u);
+            w416 = load64(frame + 24u);
+        } while (0);
+        w69 = w416;
+        n216 = 1u;
+        p68 = 0u;
+        if ((n375 & 1u) == 0u) {
+            w353 = p68;
+            w70 = 0u;
+            p69 = 0u;
+            w69 = 0u;
+            p70 = 0u;
+            p353 = p70;
+            store8(a1, n216);
+            store64(a1 + 80u, w69);
+            store64(a1 + 72u, p69);
+            store64(a1 + 64u, 0u);
+            store64(a1 + 56u, w68);
+            store64(a1 + 48u, p353);
+            store64(a1 + 40u, 0u);
+            store64(a1 + 32u, w70);
+            store64(a1 + 24u, p353);
+            store64(a1 + 16u, 0u);
+            store64(a1 + 8u, w353);
+            return;
+        }
+        const word p731 = p442 + 40u;
+        const u64 w435 = load64(p731);
+        if (w435 == 18446744073709551615ull) {
+            p68 = 0u;
+            w353 = p68;
+            w70 = 0u;
+            p69 = 0u;
+            w69 = 0u;
+            p70 = 0u;
+            p353 = p70;
+            store8(a1, n216);
+            store64(a1 + 80u, w69);
+            store64(a1 + 72u, p69);
+            store64(a1 + 64u, 0u);
+            store64(a1 + 56u, w68);
+            store64(a1 + 48u, p353);
+            store64(a1 + 40u, 0u);
+            store64(a1 + 32u, w70);
+            store64(a1 + 24u, p353);
+            store64(a1 + 16u, 0u);
+            store64(a1 + 8u, w353);
+            return;
+        }
+        store64(p731, w435 + 1u);
+        p71 = 16u;
+    }
+    p69 = p71;
+    store16((word)w69 + 2u, (u32)(word)a3);
+    w68 = w69 + 1328u;
+    w70 = w69 + 1208u;
+    w353 = w69 + 8u;
+    n216 = 0u;
+    p70 = 15u;
+    p353 = p70;
     store8(a1, n216);
     store64(a1 + 80u, w69);
-    store64(a1 + 72u, p68);
+    store64(a1 + 72u, p69);
     store64(a1 + 64u, 0u);
     store64(a1 + 56u, w68);
     store64(a1 + 48u, p353);
@@ -55801,105 +56660,165 @@ static void std_collections_btree_node_parts_Parts_new3(word a1, word a2, u64 a3
     u64 room[4];
     const word frame = (word)room;
     u64 w68 = 0u;
+    const word p442 = load_word(a2);
+    const u64 w190 = load64(p442 + 32u);
     u64 w69;
     u32 n216;
     word p68;
-    u64 w70;
     u64 w353;
+    u64 w70;
     word p69;
-    do {
-        word p70;
+    word p70;
+    word p353;
+    word p71;
+    if (a3 == 0u) {
+        u32 n375;
+        u64 w726;
         do {
-            {
-                const word p442 = load_word(a2);
-                const u64 w190 = load64(p442 + 32u);
-                word p71;
-                if (a3 == 0u) {
-                    u32 n375;
-                    u64 w726;
-                    do {
-                        if (w190 != 0u) {
-                            const word p418 = load_word(p442 + 24u);
-                            const word p20 = p418 + 32u;
-                            const u64 w248 = load64(p20);
-                            if (w248 >= 1208u) {
-                                const u64 w524 = (w248 & 18446744073709551608ull) - 1208u;
-                                store64(p20, w524);
-                                n375 = 1u;
-                                w726 = load64(p418) + w524;
-                                break;
-                            }
-                        }
-                        bumpalo_bump_Bump_alloc_layout_slow(frame, p442, 1208u, 8u);
-                        n375 = load8(frame);
-                        w726 = load64(frame + 8u);
-                    } while (0);
-                    w69 = w726;
-                    n216 = 1u;
-                    p70 = 0u;
-                    if ((n375 & 1u) == 0u)
-                        break;
-                    const word p731 = p442 + 40u;
-                    const u64 w435 = load64(p731);
-                    if (w435 == 18446744073709551615ull)
-                        goto L131;
-                    store64(p731, w435 + 1u);
-                    p71 = 0u;
-                } else {
-                    u32 n375;
-                    u64 w38;
-                    do {
-                        if (w190 != 0u) {
-                            const word p418 = load_word(p442 + 24u);
-                            const word p20 = p418 + 32u;
-                            const u64 w248 = load64(p20);
-                            if (w248 >= 1336u) {
-                                const u64 w399 = (w248 & 18446744073709551608ull) - 1336u;
-                                store64(p20, w399);
-                                n375 = 1u;
-                                w38 = load64(p418) + w399;
-                                break;
-                            }
-                        }
-                        bumpalo_bump_Bump_alloc_layout_slow(frame + 16u, p442, 1336u, 8u);
-                        n375 = load8(frame + 16u);
-                        w38 = load64(frame + 24u);
-                    } while (0);
-                    w69 = w38;
-                    n216 = 1u;
-                    p70 = 0u;
-                    if ((n375 & 1u) == 0u)
-                        break;
-                    const word p731 = p442 + 40u;
-                    const u64 w435 = load64(p731);
-                    if (w435 == 18446744073709551615ull)
-                        goto L131;
-                    store64(p731, w435 + 1u);
-                    p71 = 16u;
+            if (w190 != 0u) {
+                const word p418 = load_word(p442 + 24u);
+                const word p20 = p418 + 32u;
+                const u64 w248 = load64(p20);
+                if (w248 >= 1208u) {
+                    const u64 w524 = (w248 & 18446744073709551608ull) - 1208u;
+                    store64(p20, w524);
+                    n375 = 1u;
+                    w726 = load64(p418) + w524;
+                    break;
                 }
-                p68 = p71;
-                store16((word)w69 + 2u, (u32)(word)a3);
-                w68 = w69 + 1208u;
-                w70 = w69 + 488u;
-                w353 = w69 + 8u;
-                n216 = 0u;
-                p69 = 15u;
-                goto L753;
             }
-        L131:;
-            p70 = 0u;
+            bumpalo_bump_Bump_alloc_layout_slow(frame, p442, 1208u, 8u);
+            n375 = load8(frame);
+            w726 = load64(frame + 8u);
         } while (0);
-        w353 = p70;
-        w70 = 0u;
+        w69 = w726;
+        n216 = 1u;
         p68 = 0u;
-        w69 = 0u;
-        p69 = 0u;
-    } while (0);
-L753:;
-    const word p353 = p69;
+        if ((n375 & 1u) == 0u) {
+            w353 = p68;
+            w70 = 0u;
+            p69 = 0u;
+            w69 = 0u;
+            p70 = 0u;
+            p353 = p70;
+            store8(a1, n216);
+            store64(a1 + 80u, w69);
+            store64(a1 + 72u, p69);
+            store64(a1 + 64u, 0u);
+            store64(a1 + 56u, w68);
+            store64(a1 + 48u, p353);
+            store64(a1 + 40u, 0u);
+            store64(a1 + 32u, w70);
+            store64(a1 + 24u, p353);
+            store64(a1 + 16u, 0u);
+            store64(a1 + 8u, w353);
+            return;
+        }
+        const word p731 = p442 + 40u;
+        const u64 w435 = load64(p731);
+        if (w435 == 18446744073709551615ull) {
+            p68 = 0u;
+            w353 = p68;
+            w70 = 0u;
+            p69 = 0u;
+            w69 = 0u;
+            p70 = 0u;
+            p353 = p70;
+            store8(a1, n216);
+            store64(a1 + 80u, w69);
+            store64(a1 + 72u, p69);
+            store64(a1 + 64u, 0u);
+            store64(a1 + 56u, w68);
+            store64(a1 + 48u, p353);
+            store64(a1 + 40u, 0u);
+            store64(a1 + 32u, w70);
+            store64(a1 + 24u, p353);
+            store64(a1 + 16u, 0u);
+            store64(a1 + 8u, w353);
+            return;
+        }
+        store64(p731, w435 + 1u);
+        p71 = 0u;
+    } else {
+        u32 n375;
+        u64 w38;
+        do {
+            if (w190 != 0u) {
+                const word p418 = load_word(p442 + 24u);
+                const word p20 = p418 + 32u;
+                const u64 w248 = load64(p20);
+                if (w248 >= 1336u) {
+                    const u64 w399 = (w248 & 18446744073709551608ull) - 1336u;
+                    store64(p20, w399);
+                    n375 = 1u;
+                    w38 = load64(p418) + w399;
+                    break;
+                }
+            }
+            bumpalo_bump_Bump_alloc_layout_slow(frame + 16u, p442, 1336u, 8u);
+            n375 = load8(frame + 16u);
+            w38 = load64(frame + 24u);
+        } while (0);
+        w69 = w38;
+        n216 = 1u;
+        p68 = 0u;
+        if ((n375 & 1u) == 0u) {
+            w353 = p68;
+            w70 = 0u;
+            p69 = 0u;
+            w69 = 0u;
+            p70 = 0u;
+            p353 = p70;
+            store8(a1, n216);
+            store64(a1 + 80u, w69);
+            store64(a1 + 72u, p69);
+            store64(a1 + 64u, 0u);
+            store64(a1 + 56u, w68);
+            store64(a1 + 48u, p353);
+            store64(a1 + 40u, 0u);
+            store64(a1 + 32u, w70);
+            store64(a1 + 24u, p353);
+            store64(a1 + 16u, 0u);
+            store64(a1 + 8u, w353);
+            return;
+        }
+        const word p731 = p442 + 40u;
+        const u64 w435 = load64(p731);
+        if (w435 == 18446744073709551615ull) {
+            p68 = 0u;
+            w353 = p68;
+            w70 = 0u;
+            p69 = 0u;
+            w69 = 0u;
+            p70 = 0u;
+            p353 = p70;
+            store8(a1, n216);
+            store64(a1 + 80u, w69);
+            store64(a1 + 72u, p69);
+            store64(a1 + 64u, 0u);
+            store64(a1 + 56u, w68);
+            store64(a1 + 48u, p353);
+            store64(a1 + 40u, 0u);
+            store64(a1 + 32u, w70);
+            store64(a1 + 24u, p353);
+            store64(a1 + 16u, 0u);
+            store64(a1 + 8u, w353);
+            return;
+        }
+        store64(p731, w435 + 1u);
+        p71 = 16u;
+    }
+    p69 = p71;
+    store16((word)w69 + 2u, (u32)(word)a3);
+    w68 = w69 + 1208u;
+    w70 = w69 + 488u;
+    w353 = w69 + 8u;
+    n216 = 0u;
+    p70 = 15u;
+    p353 = p70;
     store8(a1, n216);
     store64(a1 + 80u, w69);
-    store64(a1 + 72u, p68);
+    store64(a1 + 72u, p69);
     store64(a1 + 64u, 0u);
     store64(a1 + 56u, w68);
     store64(a1 + 48u, p353);
@@ -55911,7 +56830,7 @@ L753:;
 }
 #endif
 
-#if UNITS & 0x40
+#if UNITS & 0x20
 
 /* std_collections::btree::row::Row::reverse: of a library of the compiler. */
 INTERNAL void std_collections_btree_row_Row_reverse(word a1) {
@@ -56834,7 +57753,7 @@ INTERNAL void std_collections_btree_row_Row_reverse2(word a1) {
 }
 #endif
 
-#if UNITS & 0x40
+#if UNITS & 0x20
 
 /* std_collections::btree::row::Row::reverse, for other types: of a library of the compiler. */
 INTERNAL void std_collections_btree_row_Row_reverse_i64(word a1) {

@@ -79,6 +79,7 @@ pub fn watched<A: Allocator + Copy, I: Source>(
 
 // Makes the steps up to the next one at which something may be suspicious, at once, and lets the watch follow them.
 // The machine may make `steps` steps in all.
+#[inline(never)]
 fn pass_row<A: Allocator + Copy>(
     machine: &mut Machine,
     watch: &mut Watch<A>,

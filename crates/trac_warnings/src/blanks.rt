@@ -6,6 +6,7 @@ use trac_core::is_layout;
 use trac_space::{Cell, character_of};
 
 /// The cells of a text without the blanks and the layout around it.
+#[inline(never)]
 pub(crate) fn trimmed(cells: &[Cell]) -> &[Cell]
     ensures { result.now ≡ trimmed cells.now }
 {

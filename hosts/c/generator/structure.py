@@ -4,7 +4,7 @@ from webs import each
 
 NOWHERE = frozenset()
 # So many steps may stand before a return in the place of a branch to them, and so great what that gives.
-SHORT, LEAST = 10, 6
+SHORT, LEAST = 20, 8
 
 
 class Loop(Statement):

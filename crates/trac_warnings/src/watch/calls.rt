@@ -178,7 +178,7 @@ impl<A: Allocator + Copy> Watch<A> {
 
     // Warns of a call of this function if it computes and has no result, unless something is suspicious in what it
     // computes with.
-    #[inline(always)]
+    #[inline(never)]
     fn warn_of_result(
         &mut self,
         function: Option<Function>,

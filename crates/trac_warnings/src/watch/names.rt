@@ -100,7 +100,7 @@ impl<A: Allocator + Copy> Watch<A> {
     }
 
     // Keeps which form a call of this function defined, if it defined one; and counts the call, if it is one of `cl`.
-    #[inline(always)]
+    #[inline(never)]
     pub(super) fn keep_form(&mut self, function: Option<Function>) -> Result<(), AllocError>
         requires { function ≡ function_of self.old.arguments.items }
         ensures stays { KeepsNames self.old self.new }

@@ -39,6 +39,7 @@ impl<A: Allocator + Copy> Watch<A> {
     /// Follows the steps that a machine is about to make, at most `most`, up to the next one at which something may
     /// be suspicious, and gives how many they are. They end no call, load no idling procedure and take over no
     /// protected text, and no string ends there. The machine must then make them. Fails only if memory runs out.
+    #[inline(never)]
     pub fn follow_row(&mut self, machine: &Machine, most: u64) -> Result<u64, AllocError>
         ensures few { IfOk result (λ steps. steps ≤ most) }
         ensures follows { IfOk result (λ steps.
