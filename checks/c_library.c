@@ -101,6 +101,13 @@ static int checks(void) {
     for (size_t size = 0; size < 300; size++)
         if (trac_check(cells, 64, 999, script, length, memory, size, lines, 0).fate != TRAC_NO_MEMORY)
             return 2;
+    memset(cells, 0, sizeof cells);
+    const trac_report told = trac_check_zeroed(cells, 64, 999, script, length, memory, sizeof memory, lines, whole);
+    if (told.fate != TRAC_INPUT_ENDED || told.written != whole || memcmp(lines, line, whole))
+        return 3;
+    if (trac_check_zeroed(cells, TRAC_MOST_CELLS + 1, 9, script, length, memory, 99, lines, 9).fate != TRAC_REFUSED ||
+        trac_check_zeroed(NULL, 64, 9, script, length, memory, 99, lines, 9).fate != TRAC_REFUSED)
+        return 4;
     return trac_check(cells, 64, 999, script, length, NULL, 0, lines, 0).fate != TRAC_NO_MEMORY ||
            trac_check(cells, 64, 999, script, length, NULL, 99, lines, 0).fate != TRAC_REFUSED ||
            trac_check(cells, 64, 999, NULL, length, memory, 99, lines, 0).fate != TRAC_REFUSED ||

@@ -8,13 +8,13 @@ import sys
 import tempfile
 import textwrap
 
-from covering_scripts import SEEDS, first_scripts, known, of_seed, present_seeds
+from covering_scripts import SEEDS, first_scripts, found_scripts, known, of_seed, present_seeds
 from scripts import framed
 from trac import TOP
 
 CHECKS = os.path.join(TOP, 'checks')
-COVERING = ('covering.c', 'choosing.c', 'tight.c', 'memories.c', 'images_of_both.c', 'refused_by_both.c',
-            os.path.join('fuzz', 'engines.c'))
+COVERING = ('covering.c', 'choosing.c', 'tight.c', 'memories.c', 'waiting_traces.c', 'numbers_of_both.c',
+            'images_of_both.c', 'refused_by_both.c', os.path.join('fuzz', 'engines.c'))
 WIDTH = 119
 
 
@@ -37,7 +37,7 @@ def chosen(program, seeds):
             running.stdin.write(framed(script))
             running.stdin.flush()
             return int(running.stdout.readline())
-        for script in first_scripts(scripts):
+        for script in [*first_scripts(scripts), *found_scripts()]:
             new_edges(script)
         for seed in seeds:
             if new_edges(of_seed(seed, scripts)):

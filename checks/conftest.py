@@ -1,8 +1,9 @@
-"""Adds the line with the counts that the gate reads to the end of pytest's output, and builds the Python package once
-for a run."""
+"""Adds the line with the counts that the gate reads to the end of pytest's output, builds the Python package once for a
+run, and closes what the tests of a file opened."""
 import fcntl
 import os
 import sys
+import unittest
 
 import pytest
 
@@ -24,6 +25,13 @@ def pytest_unconfigure(config):
     if reporter and hasattr(reporter, 'passed_and_failed'):
         passed, failed = reporter.passed_and_failed
         print(f'{passed} passed, {failed} failed', flush=True)
+
+
+@pytest.fixture(scope='module', autouse=True)
+def done_modules():
+    """Does what unittest leaves to the end of a file, as closing a browser, and pytest doesn't do."""
+    yield
+    unittest.doModuleCleanups()
 
 
 @pytest.fixture(scope='session')

@@ -1,9 +1,10 @@
 /* Runs scripts in both engines of engines.h, as the fuzzer does, and also by trac_check, by shown steps, with functions
  * of the host, with forms from outside, by the rest of trac.h, in little room (tight.c), with images of forms
- * (images_of_both.c), with little memory (memories.c), and with calls that are refused (refused_by_both.c). Standard
- * input has the scripts, each after its length, which has four bytes, the lowest first. Ends with a trap if the engines
- * differ, and otherwise prints how many scripts there were. With -DCHOOSING it also prints for each script how many
- * edges of the engine it took that no script before it took (choosing.c). */
+ * (images_of_both.c), with little memory (memories.c), with steps that wait (waiting_traces.c), and with calls that are
+ * refused (refused_by_both.c); and calls of arithmetic (numbers_of_both.c). Standard input has the scripts, each after
+ * its length, which has four bytes, the lowest first. Ends with a trap if the engines differ, and otherwise prints how
+ * many scripts there were. With -DCHOOSING it also prints for each script how many edges of the engine it took that no
+ * script before it took (choosing.c). */
 #include "covering.h"
 
 #include <stdlib.h>
@@ -47,13 +48,19 @@ uint32_t chosen_gap(void) {
     return chosen(3) ? 256 + chosen(3) : 255u + (ordinal < 16777220u ? ordinal : 16777216u + chosen(2));
 }
 
-/* What trac_check reports with so much memory. Gives whether that was enough. */
+/* What trac_check reports with so much memory, or trac_check_zeroed, for a script of four. Gives whether that was
+ * enough. */
 static int check_both_in(size_t length, size_t count, size_t cells, uint64_t steps) {
     const size_t room = script[3] < 30 ? script[3] * 10u : LINES;
-    const trac_report a = trac_check(proved.block, cells, steps, script + CHOICES, count - CHOICES, memory[0], length,
-                                     lines[0], room);
-    const trac_report b = c_trac_check(in_c.block, cells, steps, script + CHOICES, count - CHOICES, memory[1], length,
-                                       lines[1], room);
+    const int is_zeroed = count % 4 == 0;
+    if (is_zeroed) {
+        memset(proved.block, 0, sizeof proved.block);
+        memset(in_c.block, 0, sizeof in_c.block);
+    }
+    const trac_report a = (is_zeroed ? trac_check_zeroed : trac_check)(
+        proved.block, cells, steps, script + CHOICES, count - CHOICES, memory[0], length, lines[0], room);
+    const trac_report b = (is_zeroed ? c_trac_check_zeroed : c_trac_check)(
+        in_c.block, cells, steps, script + CHOICES, count - CHOICES, memory[1], length, lines[1], room);
     must(memcmp(&a, &b, sizeof a) == 0 && memcmp(lines[0], lines[1], a.written < room ? a.written : room) == 0,
          "trac_check");
     return a.fate != TRAC_NO_MEMORY;
@@ -260,7 +267,7 @@ static void host_both(size_t count, size_t cells, uint64_t steps) {
     for (int turn = 0; turn < TURNS && told.fate != TRAC_INPUT_ENDED && told.fate != TRAC_HALTED; turn++) {
         must(turn_both(script + at, count - at, script[4] % 4u, 1, chosen(60) + 1, &told), "a turn of a host");
         at += told.consumed;
-        if (told.fate == TRAC_WANTS_OUTPUT)
+        if (told.fate == TRAC_WANTS_OUTPUT || chosen(8) == 0)
             print_both();
         const uint8_t *value = part_of_script(count, script[4], &length);
         const uint32_t how = chosen(9) == 0 ? 3 : chosen(3);
@@ -383,6 +390,7 @@ static void run_script(size_t count) {
     if (count > CHOICES) {
         host_both(count, cells, steps);
         run_with_both(count, cells, steps);
+        waiting_traces_both(count, cells);
     }
     exact_both(count);
 }
@@ -396,6 +404,8 @@ int main(void) {
     long scripts = 0;
     functions_of_both();
     refused_both();
+    numbers_both();
+    late_steps_both();
     while (fread(length, 1, 4, stdin) == 4) {
         const size_t count = length[0] | (size_t)length[1] << 8;
         memset(script, 0, CHOICES + 1);

@@ -34,8 +34,17 @@ void exact_both(size_t count);
 /* Gives trac_check and trac_trace_step too little memory for the script, in many places. */
 void memories_both(size_t count);
 
+/* Shows steps that wait for input, for room for output and for answers. */
+void waiting_traces_both(size_t count, size_t cells);
+
+/* Shows steps behind a million others. */
+void late_steps_both(void);
+
 /* Saves the forms of both machines, and loads the image, changed or whole, into other machines and into these. */
 void save_both(trac_machine *of_proved, trac_machine *of_c);
+
+/* Calls arithmetic and functions of bit strings with numbers and strings of all lengths. */
+void numbers_both(void);
 
 /* Calls each function of trac.h with pointers, machines and numbers that it refuses. */
 void refused_both(void);

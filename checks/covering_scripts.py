@@ -1,18 +1,24 @@
-"""The scripts that covering.c runs: known ones, and those of the seeds of seeds.txt, which choose_seeds.py chose."""
+"""The scripts that covering.c runs: known ones, long ones, those that a fuzzer found, and those of the seeds of
+seeds.txt, which choose_seeds.py chose."""
+import base64
 import glob
 import os
 import re
 
 from changed_scripts import LONGEST, changed, place_of
+from long_scripts import long_scripts, written
 from scripts import made
 from trac import TOP
 from worked_rows import tables, text
 
 SEEDS = os.path.join(TOP, 'checks', 'seeds.txt')
+FOUND = os.path.join(TOP, 'checks', 'found.txt')
 # The first seed of those that nothing chose.
 OTHERS = 1000000
 # Choices of ample cells and steps; and these with all memories of memories.c.
 AMPLE, ALL_MEMORIES = b'\xff\xff\x07\x1f\x0f', b'\xff\xff\xc9\x1f\x0f'
+# Choices of ample cells and steps for long scripts: with calls, with forms, and with lines that are cut.
+LONG = AMPLE, b'\xff\xff\x96\x21\xc9', b'\xff\xff\x31\x63\x63'
 
 
 def contents(*pattern):
@@ -31,10 +37,21 @@ def known():
     return sorted({one for one in found if len(one) < LONGEST}, key=place_of)
 
 
+def found_scripts():
+    """The scripts that a fuzzer found, each with its choices: with its length before it, in base64."""
+    with open(FOUND, encoding='ascii') as file:
+        text = base64.b64decode(file.read())
+    while text:
+        length = int.from_bytes(text[:4], 'little')
+        yield text[4:4 + length]
+        text = text[4 + length:]
+
+
 def first_scripts(scripts):
-    """The known scripts, and the broken ones once more with all memories."""
-    broken = contents('examples', 'broken', '*.trac')
-    return [AMPLE + one for one in scripts] + [ALL_MEMORIES + one for one in broken]
+    """The known scripts, long ones, and the broken ones once more with all memories."""
+    broken = [*contents('examples', 'broken', '*.trac'), *written()]
+    long = [LONG[place % 3] + one for place, one in enumerate(long_scripts())]
+    return [AMPLE + one for one in scripts] + long + [ALL_MEMORIES + one for one in broken]
 
 
 def of_seed(seed, scripts):
@@ -49,7 +66,7 @@ def present_seeds():
 
 
 def covering_scripts(more):
-    """The known scripts, those of the seeds, and some more."""
+    """The known scripts, those that were found, those of the seeds, and some more."""
     scripts = known()
     seeds = [*present_seeds(), *range(OTHERS, OTHERS + more)]
-    return first_scripts(scripts) + [of_seed(seed, scripts) for seed in seeds]
+    return first_scripts(scripts) + [*found_scripts()] + [of_seed(seed, scripts) for seed in seeds]

@@ -30,6 +30,7 @@ uint32_t c_trac_meta(const trac_machine *);
 uint32_t c_trac_awaits(const trac_machine *);
 trac_report c_trac_run_zeroed(trac_cell *, size_t, uint64_t, const void *, size_t, void *, size_t);
 trac_report c_trac_check(trac_cell *, size_t, uint64_t, const void *, size_t, void *, size_t, void *, size_t);
+trac_report c_trac_check_zeroed(trac_cell *, size_t, uint64_t, const void *, size_t, void *, size_t, void *, size_t);
 uint32_t c_trac_open_zeroed(trac_machine *, trac_cell *, size_t, uint64_t);
 uint32_t c_trac_again(trac_machine *, uint64_t);
 uint32_t c_trac_take_peak(trac_machine *);

@@ -27,8 +27,9 @@ ADDED = [
     (f'{LANGUAGE}/src/table.rt', '    Function::Equal,\n', '    Function::Identity,\n'),
     (f'{LANGUAGE}/src/table.rt', "        (b'e', b'q')", "        (b'i', b'd') => Some(Function::Identity),\n"),
     (f'{LANGUAGE}/src/table.rt', '        Function::Equal => EQUAL', '        Function::Identity => IDENTITY,\n'),
-    (f'{LANGUAGE}/src/table.rt', 'const EQUAL: Facts', '''\
-const IDENTITY: Facts = Facts {
+    (f'{LANGUAGE}/src/table.rt', 'EQUAL, GREATER, HALT,', 'IDENTITY, '),
+    (f'{LANGUAGE}/src/table/rows.rt', 'pub(super) const EQUAL: Facts', '''\
+pub(super) const IDENTITY: Facts = Facts {
     name: b"id",
     call: b"id,X",
     title: b"identity",

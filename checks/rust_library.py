@@ -46,6 +46,7 @@ def erased(folder):
                         open(os.path.join(folder, f'{name}.rs'), 'w', encoding='utf-8') as file:
                     file.write(erase(source.read()).replace('use trac_space::', 'use crate::cells::')
                                .replace('use trac_checker::', 'use crate::checker::')
+                               .replace('use trac_lent::', 'use crate::lent::')
                                .replace('use trac_image::put', 'use crate::buffer::put')
                                .replace('use itoa::write_digits', 'use crate::digits::write_digits')
                                .replace('use trac_devices::decimal_len', 'use crate::digits::decimal_len'))

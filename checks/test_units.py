@@ -107,7 +107,7 @@ class Units(unittest.TestCase):
                     said(*words, *strict, f'-DTRAC_UNIT={unit}', ENGINE)
 
     def test_without_checks_and_traces_and_these_alone(self):
-        public, check = set(public_names()), {'trac_check', 'trac_trace_step'}
+        public, check = set(public_names()), {'trac_check', 'trac_check_zeroed', 'trac_trace_step'}
         with tempfile.TemporaryDirectory() as room:
             for word, wanted in (('TRAC_WITHOUT_CHECK', public - check), ('TRAC_CHECK_ALONE', check)):
                 half = os.path.join(room, word)

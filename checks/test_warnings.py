@@ -121,10 +121,13 @@ KINDS = [
      ['line 1, column 29: a text of ss also stands inside longer words: a']),
     (b"#(ds,F,(a cat sat at a mat))#(ss,F,at)#(ds,G,(N and NEW))#(ss,G,N)#(ds,H,(i/o))#(ss,H,o)'", [
         'line 1, column 29: a text of ss also stands inside longer words: at']),
-    # names that are nearly those of functions, in calls that are never performed: once for each name
+    # misspelled names in calls that are never performed: once for each name; capitals and two letters may be gaps
     (b"#(eq,a,a,(#(ps,x)),(#(pss,y)#(pss,z)))'", ['line 1, column 21: no function has the name pss']),
     (b"#(ds,F,(#(sp,x)#(add,1,2)#(zzz)#(plus,1)#(a,1)#(p,s,x)#(sb,x)))'",
-     ['line 1, column 9: no function has the name sp', 'line 1, column 16: no function has the name add']),
+     ['line 1, column 9: no function has the name sp', 'line 1, column 16: no function has the name add',
+      'line 1, column 26: no function has the name zzz', 'line 1, column 32: no function has the name plus']),
+    (b"#(ds,F,(#(FUNC,x)#(PSS,y)#(OP,z)#(zz,1)#(Print,x)#(a-b-c,1)#(say;x)#(say#(ps,x))))'",
+     ['line 1, column 18: no function has the name PSS', 'line 1, column 40: no function has the name Print']),
     (b"#(pss,x)#(ds,F,(#(pss,y)))'", ['line 1, column 1: no function has the name pss']),
     # the arguments of cl: the first without a gap, once for each form; not if the pointer was moved, the body is null,
     # or the argument comes from a value
@@ -170,6 +173,13 @@ KINDS = [
      ["line 1, column 22: what isn't protected is always performed, here in an argument of cc",
       "line 1, column 39: what isn't protected is always performed, here in an argument of cc"]),
     (b"#(eq,#(ds,A,x),,(#(ps,a)),)#(eq,a,a,#(cl,A),)#(eq,a,a,#(cs,A),)'", []),
+    # the body of a form, if it is one call that prints or changes forms, and isn't protected
+    (b"#(ds,A,#(ps,x))#(ds,B,##(ds,C,y))'",
+     ["line 1, column 8: what isn't protected is always performed, here in an argument of ds",
+      "line 1, column 23: what isn't protected is always performed, here in an argument of ds"]),
+    (b"#(ds,A,#(ps,x)#(ps,y))'",
+     ["line 1, column 15: what isn't protected is always performed, here in an argument of ds"]),
+    (b"#(ds,A,(#(ps,x)))#(ds,B,a#(ps,x))#(ds,#(ps,x),b)#(ds,C,#(ps,x) )#(ds,D,#(cl,A))#(ds,E,b,#(ps,x))'", []),
     # commas in numbers
     (b"#(ps,#(ad,1,000,5))'", ['line 1, column 6: digits behind a comma are another argument, here of ad']),
     (b"#(ps,#(SU,5,12,500))'", ['line 1, column 6: digits behind a comma are another argument, here of SU']),
@@ -292,7 +302,7 @@ class Warnings(unittest.TestCase):
 
     def test_each_broken_script_is_told(self):
         broken = sorted(glob.glob(os.path.join(FOLDER, 'broken', '*.trac')))
-        self.assertEqual(len(broken), 44)
+        self.assertEqual(len(broken), 46)
         for path in broken:
             with self.subTest(script=path):
                 self.assertGreater(len(wanted(path)), 0)

@@ -6,110 +6,22 @@ import json
 import os
 import re
 import subprocess
-import typing
 
+from branch_kinds import EXCLUDED, OTHERS, Kind
 from trac import TOP
 
 ENGINE = os.path.join(TOP, 'hosts', 'c', 'trac_engine.c')
 LISTED = os.path.join(TOP, 'checks', 'branches.md')
-# A variable of the generated C, and an address in a comparison of two.
-VARIABLE = r'[a-z]\d+'
-ADDRESS = rf'(?:{VARIABLE}|\(TABLES \+ \d+u\)|bytes|text|name)'
-BEFORE, DEEPEST = 16, 64
-FINDING = ('functions_form_(calls|parts)_|'
-           'forms_work_Work_(copy_body|set_pointer|next_char|place_of|body_len|pointer)$')
-NUMBERS = rf'\(({VARIABLE}|form|k) (?:[=!]=|[<>]=?) ({VARIABLE}|form|k)\)'
-
-
-class Kind(typing.NamedTuple):
-    """A kind of branches: what they are, or what excludes them; the functions and the text of the condition that have
-    it; and texts in front of it, where @ is one of the compared variables, and in the next line."""
-    what: str
-    functions: str = ''
-    condition: str = ''
-    before: str = ''
-    after: str = ''
-
-
-# None of the branches of these kinds that aren't taken can be taken.
-EXCLUDED = {
-    'trap': Kind(
-        'a place that the proofs exclude, as a divisor that is 0, or a cell in an index that is no number and no comma '
-        '(`IsSound` of trac_forms)',
-        condition=r'\btrap\(\)'),
-    'null': Kind('a null pointer: `api.c` hands the exports pointers that are never null',
-                 condition=r' == 0u \? 4096u : 0u\)'),
-    'one chunk': Kind(
-        'a second chunk of an arena: `Lent` of trac_lent refuses all blocks after the first, and `arena_over` takes '
-        'all pages as that one',
-        condition=r'load64\((\(word\))?\w+ \+ 32u\) == 1u'),
-    'table': Kind('a constant text that overlaps what it is copied to: the tables of the engine are never written',
-                  condition=rf'\({VARIABLE} - \(TABLES \+ \d+u\) (<|<=|>) ({VARIABLE}|\d+u)\)'),
-    'part': Kind(
-        'a part that is empty, stays where it is or overlaps its copy: `copy_long` of trac_space first tests '
-        '`end - start < BLOCK` and `start.abs_diff(to) < BLOCK`, and `copy_disjoint` `requires apart`',
-        functions='space_copies_copy_long'),
-    'count': Kind('a count of bytes, cells or lines, or a place among them, that reaches 2^64: there are fewer',
-                  condition=rf'{VARIABLE} (== 0u|[<>] {VARIABLE}) \? 18446744073709551615ull : {VARIABLE}'),
-    'overlap': Kind(
-        'a copy that overlaps itself: it is made from a shared slice to an exclusive one, or to a new place of a list',
-        condition=rf'\({ADDRESS} - {ADDRESS} < ({VARIABLE}|\w+_len)\)',
-        after=rf'& (3u|18446744073709551612ull);$|^if \({VARIABLE} [!=]= 0u\)( \{{)?$'),
-    'order': Kind(
-        'a copy to cells in front of those that are copied: the store, neutral and active stand in this order '
-        '(`IsLaidOut` of trac_space)',
-        functions='space_space_Space_copy_store|forms_work_Work_neutral_to_active|functions_arguments_put_part|'
-        'engine_define|engine_load',
-        condition=rf'\((\(u64\))?{VARIABLE} \+ 8u <= {VARIABLE}\)'),
-    'few': Kind('a search among fewer than 8 forms: `Work::find` of trac_forms calls it where `count >= FEW_FORMS`',
-                functions='forms_work_Work_find_among_more', condition=rf'\({VARIABLE} <= 7u\)'),
-    'held': Kind(
-        'a character that is read and fits: `take_held` of trac_devices `ensures taken` that it took all that fit, so '
-        'what is left meets a full neutral',
-        functions='c_turn_take_turn|core_input_output_read_string', condition='space_space_Space_push_over_index'),
-    'room': Kind(
-        'a byte that a turn prints behind the end of the output: `go_on` of trac_c `ensures fits`',
-        functions='core_display_show_items4|c_devices_OverflowSinkSink_put_all|c_turn_take_turn',
-        condition=rf'load64\(sink \+ 8u\) (<=|>) |\({VARIABLE} (<|<=|>=) w\d+\)'),
-    'innermost': Kind(
-        'a call with another one open behind it: only the innermost call is performed (`IsCall` of trac_functions)',
-        condition=rf'\(({VARIABLE}|\w+ \+ 1u) == ({VARIABLE})\)',
-        before=r'\b@ = load32\((\w+ \+ 32u|frame \+ 1248u)\);'),
-    'walk': Kind(
-        'a walk to a form from the one used last, or from the first: `Work::find` and `Work::form` of trac_forms make '
-        'the form that they give the one used last (`last`), and these functions ask only for that one',
-        functions='functions_form_(calls|parts)_|'
-        'forms_work_Work_(copy_body|set_pointer|next_char|place_of|body_len|pointer)$',
-        condition=rf'\(({VARIABLE}|form|k) (?:[=!]=|[<>]=?) ({VARIABLE}|form|k)\)',
-        before=r'\b@ = load32\(\w+ \+ 44u\);| = \w+ \+ 44u;\n.*\b@ = load32\(\w+\);'),
-}
-# Some of these can be taken, or nobody has examined whether they can.
-OTHERS = {
-    'memory': Kind('a list that finds no more memory',
-                   condition=r'grow_amortized|alloc_layout_slow|insert_reserved|\w+\(.*& 255u\)'),
-    'too short': Kind('a list or a part of the block that is too short, or long enough',
-                      condition=rf'\({ADDRESS} - {ADDRESS} (<|<=|>) ({VARIABLE}|\d+u|\w+_len)\)'),
-    'empty list': Kind('whether a list that ends had memory', condition=rf'\({VARIABLE} [!=]= 0u\)',
-                       after=r'load64\((\(word\))?\w+ \+ 32u\) == 1u|= load_word\(\w+ \+ \d+u\);$'),
-    'last piece': Kind('whether a list that ends is the last of its arena',
-                       condition=rf'load64\({VARIABLE}\) \+ {VARIABLE} =='),
-    'limit': Kind('a sum or a difference at its limit, or a slice that begins behind the end',
-                  condition=r'5032u|18446744073709551615ull|4294967295u|\? 0u : |65521u'),
-    'tag': Kind('whether a cell of an argument is a character',
-                condition=r'load8\(no_address\(\w+( \+ \d+u)?, 1u\)\)'),
-    'switch': Kind('an arm of a switch', condition='^switch'),
-    'library': Kind('another branch of a function of the libraries of the compiler',
-                    functions='std_|core_slice_|bumpalo_|itoa_'),
-    'other': Kind('any other branch'),
-}
+BEFORE, DEEPEST = 40, 64
 TITLES = {'Excluded': ('What is excluded, and by what', EXCLUDED), 'Not examined': ('What it is', OTHERS)}
 HEAD = """# Branches of the engine in C that nothing takes
 
 `WRITE=1 python3 -m pytest checks/proved/test_branches.py` writes this page, and that check fails if more branches of a
 function aren't taken than this page says. Of {:,} branches, each counted once, {:,} aren't taken in any run that is
 compared with the proved library, {:.1f} percent. {:,} of these, {:.1f} percent of all, can't be taken: what excludes
-them was looked up for each kind, and the kind of a branch is told by its condition (`untaken.py`). The check also fails
-if a condition of such a kind is seen both true and false. Nobody has examined whether the other {:,} can be taken.
+them was looked up for each kind, and the kind of a branch is told by its condition (`branch_kinds.py`). The check also
+fails if a condition of such a kind is seen both true and false. Nobody has examined whether the other {:,} can be
+taken.
 
 A branch in lines that never ran has the kind of the branch that leads there. The names are those of `trac_engine.c`,
 which have the crate, the module and the function.
@@ -138,13 +50,18 @@ def statement(source, number):
     return text + ' trap();' * (source[number].strip() == 'trap();')
 
 
-def has_kind(source, number, function, asked):
-    """Whether a line has a condition of a kind."""
+def fits(source, number, function, asked):
+    """Whether a line has a condition as it is asked for."""
     found = re.match(asked.functions, function) and re.search(asked.condition, statement(source, number))
     if not found or not re.search(asked.after, source[number].strip()):
         return False
     front = '\n'.join(source[max(0, number - BEFORE):number - 1])
     return not asked.before or any(re.search(asked.before.replace('@', one), front) for one in found.groups() if one)
+
+
+def has_kind(source, number, function, asked):
+    """Whether a line has a condition of a kind."""
+    return any(fits(source, number, function, one) for one in (asked, *asked.also))
 
 
 def kind(source, number, function):
@@ -184,7 +101,7 @@ def untaken(folder):
             behind, roots = function, []
         missed = sum(1 for count in branches if not count)
         depth = indent(source[number - 1])
-        name = kind(source, number, function) if runs else leading(roots, depth)
+        name = kind(source, number, function) if runs or not roots else leading(roots, depth)
         if runs and missed and ' ? ' not in statement(source, number):
             roots.append((depth, name))
         found[function][0] += len(branches)

@@ -335,18 +335,26 @@ static void trace_one(kept *of) {
     free(lines);
 }
 
+/* A check reports the same in a block of any content and in one of zero bytes. */
 static void check_some(void) {
     static const size_t most = 4096;
     const size_t room = drawn(MOST_BYTES), lists = drawn(2) ? most : drawn(250), left = (size_t)(end - next);
     const size_t length = left < 40 ? left : 40;
     trac_cell *const block = (trac_cell *)fresh(60 * sizeof *block);
+    trac_cell *const zeroed = (trac_cell *)calloc(60, sizeof *zeroed);
     uint8_t *const memory = (uint8_t *)fresh(most), *const lines = (uint8_t *)fresh(room);
-    const trac_report told = trac_check(block, 60, 200, next, length, memory, lists, lines, room);
-    must(told.written <= room);
+    uint8_t *const other = (uint8_t *)fresh(room);
+    must(zeroed != NULL);
+    const trac_report one = trac_check(block, 60, 200, next, length, memory, lists, lines, room);
+    const trac_report two = trac_check_zeroed(zeroed, 60, 200, next, length, memory, lists, other, room);
+    must(one.fate == two.fate && one.steps == two.steps && one.peak == two.peak && one.written == two.written);
+    must(one.wanted == two.wanted && one.written <= room && memcmp(lines, other, one.written) == 0);
     next += length;
     free(block);
+    free(zeroed);
     free(memory);
     free(lines);
+    free(other);
 }
 
 /* A script does the same in a block of any content and in one of zero bytes. */

@@ -1,6 +1,7 @@
-"""Which branches of the engine in C are taken in runs that are compared with the proved library: known scripts, changed
-ones and those of a grammar, in one run, in turns, in little room, by trac_check, with functions of the host, with forms
-from outside and their images, and by the rest of trac.h. All results are the same."""
+"""Which branches of the engine in C are taken in runs that are compared with the proved library: known scripts, long
+ones, changed ones, those of a grammar and those that a fuzzer found, in one run, in turns, in little room, by
+trac_check and by shown steps, also with too little memory, with functions of the host, with forms from outside and
+their images, and by the rest of trac.h; and arithmetic with numbers of all lengths. All results are the same."""
 import os
 import re
 import subprocess
@@ -16,11 +17,11 @@ CHECKS = os.path.join(TOP, 'checks')
 HEADERS = os.path.join(TOP, 'hosts', 'c')
 PROVED = os.environ.get('PROVED', os.path.join(TOP, 'dist', 'libtrac.a'))
 COUNT = int(os.environ.get('COUNT', 100))
-COVERING = ('covering.c', 'tight.c', 'memories.c', 'images_of_both.c', 'refused_by_both.c',
-            os.path.join('fuzz', 'engines.c'))
+COVERING = ('covering.c', 'tight.c', 'memories.c', 'waiting_traces.c', 'numbers_of_both.c', 'images_of_both.c',
+            'refused_by_both.c', os.path.join('fuzz', 'engines.c'))
 SIZES = '-DCELLS=32u', '-DSTEPS=64u', '-DMOST_CELLS=8192'
 # The least percentage of the branches; the percentage that is taken is printed.
-LEAST = 71
+LEAST = 74
 # Each branch counts once, also where it is a part of several functions.
 ONCE = '-D__OPTIMIZE_SIZE__'
 

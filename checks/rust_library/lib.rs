@@ -56,7 +56,35 @@ mod source {
     }
 }
 
+/// What the exports take of `trac_lent`: memory, which nothing uses.
+mod lent {
+    pub(crate) struct Units;
+
+    impl Units {
+        pub(crate) unsafe fn from_raw(_place: *mut u128) -> Units {
+            Units
+        }
+    }
+}
+
 /// The crate has no check of scripts.
+mod check {
+    use crate::lent::Units;
+    use crate::report::TracReport;
+    use trac_t64::Cell;
+
+    pub(crate) fn check_over(
+        _block: &mut [Cell],
+        _steps: u64,
+        _script: &[u8],
+        _units: Units,
+        _count: usize,
+        _to: &mut [u8],
+    ) -> TracReport {
+        std::process::abort()
+    }
+}
+
 #[unsafe(no_mangle)]
 pub extern "C" fn trac_engine_check() -> ! {
     std::process::abort()

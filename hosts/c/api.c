@@ -65,8 +65,11 @@ static units units_in(void *memory, size_t length) {
     return found;
 }
 
-trac_report trac_check(trac_cell *block, size_t cells, uint64_t steps, const void *script, size_t script_length,
-                       void *memory, size_t memory_length, void *lines, size_t lines_length) {
+/* Checks a script by an export, where its block, its bytes and its memory can be used. */
+static trac_report check_by(trac_report (*checks)(void *, size_t, uint64_t, const uint8_t *, size_t, void *, size_t,
+                                                  uint8_t *, size_t),
+                            trac_cell *block, size_t cells, uint64_t steps, const void *script, size_t script_length,
+                            void *memory, size_t memory_length, void *lines, size_t lines_length) {
     static const trac_report no_memory = {TRAC_NO_MEMORY, 0, 0, 0, 0, 0};
     trac_cell no_cell;
     units lent;
@@ -76,8 +79,21 @@ trac_report trac_check(trac_cell *block, size_t cells, uint64_t steps, const voi
     lent = units_in(memory, memory_length);
     if (!lent.count)
         return no_memory;
-    return trac_engine_check(block ? block : &no_cell, cells, steps, read_from(script), script_length, lent.place,
-                             lent.count, written_to(lines), lines_length);
+    return checks(block ? block : &no_cell, cells, steps, read_from(script), script_length, lent.place, lent.count,
+                  written_to(lines), lines_length);
+}
+
+trac_report trac_check(trac_cell *block, size_t cells, uint64_t steps, const void *script, size_t script_length,
+                       void *memory, size_t memory_length, void *lines, size_t lines_length) {
+    return check_by(trac_engine_check, block, cells, steps, script, script_length, memory, memory_length, lines,
+                    lines_length);
+}
+
+trac_report trac_check_zeroed(trac_cell *block, size_t cells, uint64_t steps, const void *script,
+                              size_t script_length, void *memory, size_t memory_length, void *lines,
+                              size_t lines_length) {
+    return check_by(trac_engine_check_zeroed, block, cells, steps, script, script_length, memory, memory_length, lines,
+                    lines_length);
 }
 
 struct aligned_trace {

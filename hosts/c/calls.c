@@ -7,11 +7,16 @@ enum { AT_ONCE = 4096, MOST_LINES = 8 };
 
 static uint8_t small(uint8_t letter) { return letter >= 'A' && letter <= 'Z' ? (uint8_t)(letter + 32) : letter; }
 
+/* For each letter, a function whose name begins with it. */
+static const known_function *by_letter[256];
+
 /* Gets what the engine knows about a function. */
 static void learn(known_function *of, size_t which) {
     const size_t length = trac_function_text(which, TRAC_TEXT_NAME, of->name, MOST_NAME);
     of->name[length < MOST_NAME ? length : MOST_NAME] = 0;
     (void)trac_function(which, &of->facts);
+    of->next = by_letter[(uint8_t)of->name[0]];
+    by_letter[(uint8_t)of->name[0]] = of;
 }
 
 /* The functions; none if there is no memory for them. The engine's answers are fetched once, because a run has many
@@ -43,12 +48,10 @@ static int is_name(const uint8_t *name, size_t length, const char *of) {
 
 const known_function *function_named(const uint8_t *name, size_t length) {
     size_t count;
-    const known_function *const known = functions(&count);
-    const uint8_t first = length ? small(name[0]) : 0;
-    for (size_t which = 0; which < count; which++)
-        if ((uint8_t)known[which].name[0] == first && is_name(name, length, known[which].name))
-            return &known[which];
-    return NULL;
+    const known_function *of = functions(&count) && length ? by_letter[small(name[0])] : NULL;
+    while (of && !is_name(name, length, of->name))
+        of = of->next;
+    return of;
 }
 
 void begin_watch(watch *of) { of->lines.length = of->count = 0; }

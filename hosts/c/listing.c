@@ -1,8 +1,6 @@
 /* Old listings: how they differ from scripts for this processor, and which of these differences can be converted. */
 #include "terminal.h"
 
-#include <strings.h>
-
 /* The characters by which a typewriter took back the character before. */
 enum { RUBOUT = 127, BACKSPACE = 8 };
 
@@ -48,15 +46,20 @@ static void take_back(text *of) {
         of->length -= length;
 }
 
-/* The bytes that may have to be changed: those that take back a character, end a line, or begin a typographic
+/* The bytes that may have to be changed: those that end a line, take back a character, or begin a typographic
  * apostrophe. */
-static const uint8_t may_change[256] = {['\r'] = 1, [BACKSPACE] = 1, [RUBOUT] = 1, [0xC2] = 1, [0xE2] = 1};
+static const uint8_t may_change[] = {'\r', BACKSPACE, RUBOUT, 0xC2, 0xE2};
 
-/* How many bytes come before the next that may have to be changed. */
+/* The maximum number of bytes that are examined at once. */
+enum { AT_ONCE = 1024 };
+
+/* How many bytes come before the next that may have to be changed, at most AT_ONCE. */
 static size_t length_unchanged(const uint8_t *at, size_t left) {
-    size_t length = 0;
-    while (length < left && !may_change[at[length]])
-        length++;
+    size_t length = left < AT_ONCE ? left : AT_ONCE;
+    for (size_t i = 0; i < sizeof may_change; i++) {
+        const uint8_t *const found = (const uint8_t *)memchr(at, may_change[i], length);
+        length = found ? (size_t)(found - at) : length;
+    }
     return length;
 }
 
@@ -86,10 +89,14 @@ static void add_plain(text *to, const text *from, findings *found) {
     }
 }
 
+/* The bytes that end a name. */
+static const uint8_t ends_name[256] = {[0] = 1,   ['#'] = 1, ['('] = 1,  [')'] = 1,
+                                       [','] = 1, ['\''] = 1, ['\n'] = 1};
+
 /* The length of the name after `#(`, up to a comma or a right parenthesis; 0 if something else comes first. */
 static size_t name_length(const uint8_t *at, size_t left) {
     size_t length = 0;
-    while (length < left && !strchr("#(),'\n", at[length]))
+    while (length < left && !ends_name[at[length]])
         length++;
     return length < left && (at[length] == ',' || at[length] == ')') ? length : 0;
 }
@@ -104,12 +111,6 @@ static int compare_names(const void *one, const void *other) {
     const name_part *const a = (const name_part *)one, *const b = (const name_part *)other;
     const int order = memcmp(a->bytes, b->bytes, a->length < b->length ? a->length : b->length);
     return order ? order : (a->length > b->length) - (a->length < b->length);
-}
-
-/* Whether a name occurs in a sorted list of names. */
-static int has_name(const text *names, const uint8_t *bytes, size_t length) {
-    const name_part name = {bytes, length};
-    return names->length && bsearch(&name, names->bytes, names->length / sizeof name, sizeof name, compare_names);
 }
 
 /* What is called at a place in a script: the name, and the function if it names one. */
@@ -146,7 +147,13 @@ static void add_name(text *names, const uint8_t *bytes, size_t length) {
 }
 
 /* The names of the forms that a script makes, sorted. A function makes a form if it changes a form that needn't
- * exist. */
+ * exist. They are found when one is asked for. */
+typedef struct {
+    const text *script;
+    text sorted;
+    int are_found;
+} made_names;
+
 static void find_names(text *names, const text *script) {
     for (size_t at = next_call(script, 0); at; at = next_call(script, at)) {
         const called of = call_at(script, at);
@@ -159,28 +166,55 @@ static void find_names(text *names, const text *script) {
         qsort(names->bytes, names->length / sizeof(name_part), sizeof(name_part), compare_names);
 }
 
+/* Whether the script makes a form with a name. */
+static int has_name(made_names *names, const uint8_t *bytes, size_t length) {
+    const name_part name = {bytes, length};
+    text *const sorted = &names->sorted;
+    if (!names->are_found)
+        find_names(sorted, names->script);
+    names->are_found = 1;
+    return sorted->length && bsearch(&name, sorted->bytes, sorted->length / sizeof name, sizeof name, compare_names);
+}
+
+/* The line of a place in a script, from 1. */
+static size_t line_at(const text *script, const uint8_t *place) {
+    size_t line = 1;
+    for (const uint8_t *at = script->bytes; at < place; at++)
+        line += *at == '\n';
+    return line;
+}
+
+/* Whether two characters are these letters of lower case, in either case. */
+static int are_letters(const uint8_t *name, const char *letters) {
+    return (name[0] | 32) == letters[0] && (name[1] | 32) == letters[1];
+}
+
+/* Which function that this processor omits has a name; LEFT_OUT if none has. */
+static size_t number_left_out(const uint8_t *name, size_t length) {
+    size_t which = length == 2 ? 0 : LEFT_OUT;
+    while (which < LEFT_OUT && !are_letters(name, left_out[which].name))
+        which++;
+    return which;
+}
+
 /* Notes how the name of a call is written, and whether the function is one that this processor omits. */
-static void note_call(findings *found, const called *of, size_t line, const text *names) {
+static void note_call(findings *found, const called *of, made_names *names) {
     for (size_t i = 0; i < of->length; i++) {
         found->capitals += (size_t)(of->function && of->name[i] >= 'A' && of->name[i] <= 'Z');
         found->small += (size_t)(of->function && of->name[i] >= 'a' && of->name[i] <= 'z');
     }
-    for (size_t i = 0; i < LEFT_OUT; i++)
-        if (of->length == 2 && !of->function && !strncasecmp((const char *)of->name, left_out[i].name, 2) &&
-            !has_name(names, of->name, of->length)) {
-            found->first_line[i] = found->calls[i]++ ? found->first_line[i] : line;
-        }
+    const size_t omitted = of->function ? LEFT_OUT : number_left_out(of->name, of->length);
+    if (omitted < LEFT_OUT && !has_name(names, of->name, of->length) && !found->calls[omitted]++)
+        found->first_line[omitted] = line_at(names->script, of->name);
 }
 
 /* Adds a script, in which calls of bare names become calls of the forms with these names, if the script makes them. */
-static void add_called(text *to, const text *script, const text *names, findings *found) {
-    size_t from = 0, line = 1;
+static void add_called(text *to, const text *script, made_names *names, findings *found) {
+    size_t from = 0;
     for (size_t at = next_call(script, 0); at; at = next_call(script, at)) {
         const called of = call_at(script, at);
-        for (size_t i = from; i < at; i++)
-            line += script->bytes[i] == '\n';
         add_bytes(to, script->bytes + from, at - from);
-        note_call(found, &of, line, names);
+        note_call(found, &of, names);
         if (of.length && !of.function && has_name(names, of.name, of.length)) {
             add_text(to, "cl,");
             found->bare_names++;
@@ -202,15 +236,15 @@ static void count_lines(findings *found, const text *script) {
 
 /* Adds a listing as a script for this processor, and notes what was changed and what wasn't. */
 static void convert(text *to, const text *from, findings *found) {
-    text plain = {NULL, 0, 0, 0}, names = {NULL, 0, 0, 0};
+    text plain = {NULL, 0, 0, 0};
+    made_names names = {&plain, {NULL, 0, 0, 0}, 0};
     to->is_short |= !function_at(0);
     add_plain(&plain, from, found);
     count_lines(found, &plain);
-    find_names(&names, &plain);
     add_called(to, &plain, &names, found);
-    to->is_short |= plain.is_short | names.is_short;
+    to->is_short |= plain.is_short | names.sorted.is_short;
     free(plain.bytes);
-    free(names.bytes);
+    free(names.sorted.bytes);
 }
 
 /* Adds a number of things, after a comma if others come before. */

@@ -12,6 +12,8 @@ trac_report trac_engine_run_zeroed(void *block, size_t cells, uint64_t steps, co
                                    size_t script_length, uint8_t *output, size_t output_length);
 trac_report trac_engine_check(void *block, size_t cells, uint64_t steps, const uint8_t *script, size_t script_length,
                               void *memory, size_t units, uint8_t *to, size_t to_length);
+trac_report trac_engine_check_zeroed(void *block, size_t cells, uint64_t steps, const uint8_t *script,
+                                     size_t script_length, void *memory, size_t units, uint8_t *to, size_t to_length);
 trac_report trac_engine_trace_step(void *machine, trac_trace *trace, const uint8_t *input, size_t input_length,
                                    uint8_t *output, size_t output_length, uint32_t ended, void *memory, size_t units,
                                    uint8_t *lines, size_t lines_length);

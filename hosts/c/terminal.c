@@ -181,11 +181,11 @@ static int check_image(const char *name, trac_cell *block) {
     return status;
 }
 
-/* Tells what is suspicious in a file, over this block. Gives the status. */
+/* Tells what is suspicious in a file; whether an image can be loaded, over this block. Gives the status. */
 static int check(char *name, trac_cell *block) {
     if (is_image_name(name))
         return check_image(name, block);
-    return check_files(&name, 1, options[WITH].text, block, (size_t)options[CELLS].number, options[ALLOWANCE].number);
+    return check_files(&name, 1, options[WITH].text, (size_t)options[CELLS].number, options[ALLOWANCE].number);
 }
 
 /* Does so for each file, and gives the worst status. */

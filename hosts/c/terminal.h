@@ -53,10 +53,12 @@ int has_form(const trac_machine *machine, const uint8_t *name, size_t length, te
 /* The maximum length of a function's name here. */
 enum { MOST_NAME = 8 };
 
-/* A function of the language: its name, followed by a null byte, and what is true of its calls. */
-typedef struct {
+/* A function of the language: its name, followed by a null byte, what is true of its calls, and another function whose
+ * name begins with the same letter, if there is one. */
+typedef struct known_function {
     char name[MOST_NAME + 1];
     trac_function_facts facts;
+    const struct known_function *next;
 } known_function;
 
 /* Function `which` of the language, from 0; a null pointer past the last, and if there is no memory for them. */
@@ -169,25 +171,24 @@ int save_forms(const trac_machine *machine, size_t cells, uint64_t steps, const 
 /* The status if something is suspicious, and there is nothing worse. */
 enum { SUSPICIOUS = 7 };
 
-/* What a check uses: a block; memory for its lists and for its lines; what is printed about a file; and the script that
- * is run before each file, followed by a line end. */
+/* What a check uses: a number of cells, and of steps; memory for its lists and for its lines; what is printed about a
+ * file; and the script that is run before each file, followed by a line end. */
 typedef struct {
-    trac_cell *block;
     size_t cells;
     uint64_t steps;
     text lists, lines, print, front;
 } checker;
 
-/* Checks a script, with more memory if necessary. Gives 0 if there is no memory. */
+/* Checks a script in a block of its own, with more memory if necessary. Gives 0 if there is no memory. */
 int check_script(checker *with, const text *script, trac_report *report);
 
 /* The worse of two statuses: each is worse than 0, and each other one is worse than that of what is suspicious. */
 int worse(int a, int b);
 
-/* Runs files over a block, each separately and without its output, and prints what is suspicious in them, each line
- * after the file's name. If `with` is no null pointer, the content of that file is run before each. Gives the worst
- * status: 7 if something is suspicious, and there is nothing worse. */
-int check_files(char *const *names, size_t count, const char *with, trac_cell *block, size_t cells, uint64_t steps);
+/* Runs files, each separately and without its output, and prints what is suspicious in them, each line after the file's
+ * name. If `with` is no null pointer, the content of that file is run before each. Gives the worst status: 7 if
+ * something is suspicious, and there is nothing worse. */
+int check_files(char *const *names, size_t count, const char *with, size_t cells, uint64_t steps);
 
 /* ---- Old listings: listing.c. */
 

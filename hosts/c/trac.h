@@ -277,11 +277,17 @@ TRAC_API trac_report trac_run_with(trac_cell *block, size_t cells, uint64_t step
  * the line of the fault, if one ended the run. These are the lines of `trac_trace --warn`. What the script prints is
  * dropped, and `consumed` is 0. The lists that this needs stand in `memory`, of which nothing is used afterwards; a
  * megabyte is enough for most scripts. With TRAC_NO_MEMORY nothing was written. The engine in C leaves this function
- * out with -DTRAC_WITHOUT_CHECK, and trac_trace_step too; all the others with -DTRAC_CHECK_ALONE. */
+ * out with -DTRAC_WITHOUT_CHECK, trac_check_zeroed and trac_trace_step too; all the others with -DTRAC_CHECK_ALONE. */
 #if !defined(TRAC_STATIC) || !defined(TRAC_WITHOUT_CHECK)
 TRAC_API trac_report trac_check(trac_cell *block, size_t cells, uint64_t steps, const void *script,
                                 size_t script_length, void *memory, size_t memory_length, void *lines,
                                 size_t lines_length);
+
+/* Checks a script as trac_check does, in a block each byte of which is 0, as calloc gives it. Nothing is written to
+ * cells that the run doesn't use. Another block is a mistake that is not found. */
+TRAC_API trac_report trac_check_zeroed(trac_cell *block, size_t cells, uint64_t steps, const void *script,
+                                       size_t script_length, void *memory, size_t memory_length, void *lines,
+                                       size_t lines_length);
 #endif
 
 /* Makes a machine without forms over a block of so many cells, with an allowance of so many steps. Gives 0, and the

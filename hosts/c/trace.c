@@ -272,8 +272,9 @@ static int add_failed_end(checker *with, text *script, trac_report *report) {
     static tracer of;
     of.input = *script;
     of.end = TRAC_INPUT_FAILS;
-    if (!take_memory(&of) || !reserve(&of.output, CHUNK) ||
-        trac_open(&of.machine, with->block, with->cells, with->steps))
+    trac_cell *const block = (trac_cell *)calloc(with->cells, sizeof *block);
+    if (!block || !take_memory(&of) || !reserve(&of.output, CHUNK) ||
+        trac_open_zeroed(&of.machine, block, with->cells, with->steps))
         return 0;
     const size_t written = report->written;
     *report = run(&of, NULL);
@@ -297,12 +298,10 @@ static int read_input(text *to, int *has_failed) {
     return !to->is_short;
 }
 
-/* A checker with a block. The block is a null pointer if there is no memory for it. */
+/* A checker by the options. */
 static checker make_checker(void) {
-    const size_t cells = (size_t)options[CELLS].number;
-    trac_cell *const block = (trac_cell *)malloc(cells * sizeof *block);
-    return (checker){block, cells, options[ALLOWANCE].number, {NULL, 0, 0, 0}, {NULL, 0, 0, 0}, {NULL, 0, 0, 0},
-                     {NULL, 0, 0, 0}};
+    return (checker){(size_t)options[CELLS].number, options[ALLOWANCE].number, {NULL, 0, 0, 0}, {NULL, 0, 0, 0},
+                     {NULL, 0, 0, 0}, {NULL, 0, 0, 0}};
 }
 
 static int show_warnings(void) {
@@ -312,7 +311,7 @@ static int show_warnings(void) {
     if (!read_input(&script, &has_failed))
         return no_memory();
     checker with = make_checker();
-    if (!with.block || !check_script(&with, &script, &report))
+    if (!check_script(&with, &script, &report))
         return no_memory();
     if (has_failed && report.fate == TRAC_INPUT_ENDED && !add_failed_end(&with, &script, &report))
         return no_memory();
@@ -368,7 +367,7 @@ static int check_file(checker *with, const char *name) {
                  : errno == EISDIR ? say_of_file(INPUT_FAILED, "can't read ", name, ": it is a folder")
                                    : say_of_file(INPUT_FAILED, "can't read ", name, ": the system refuses it");
     else
-        status = with->block && check_script(with, &script, &report) ? print_check(with, name, &report) : NO_MEMORY;
+        status = check_script(with, &script, &report) ? print_check(with, name, &report) : NO_MEMORY;
     if (status == NO_MEMORY)
         (void)say_of_file(status, "no memory to check ", name, "");
     free(script.bytes);

@@ -50,7 +50,8 @@ pub unsafe extern "C" fn trac_engine_check(
 }
 
 /// The report on a script that is checked in a block, and in memory of `count` units.
-fn check_over(
+#[inline(never)]
+pub(crate) fn check_over(
     block: &mut [Cell],
     steps: u64,
     script: &[u8],

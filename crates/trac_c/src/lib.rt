@@ -49,4 +49,4 @@ pub use view::{
     trac_engine_neutral_part, trac_engine_part, trac_engine_printed, trac_engine_rule,
     trac_engine_steps_to_call, trac_engine_takes, trac_engine_value_source,
 };
-pub use zeroed::{trac_engine_open_zeroed, trac_engine_run_zeroed};
+pub use zeroed::{trac_engine_check_zeroed, trac_engine_open_zeroed, trac_engine_run_zeroed};

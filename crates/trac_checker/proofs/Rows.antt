@@ -1,7 +1,9 @@
 -- Rows of steps that a machine makes at once, seen step by step.
-use Rattle.std.proofs.Common.{◌≡◌, ◌∙◌, ◌+◌, ◌-◌, ◌<◌, ◌≤◌, ◌==◌, ⊎_elim, ℕ, zero, suc, Bool, true, false, List, [], ◌∷◌, ◌++◌, Option, None, Some, ap, arith, drop, take, if◌then◌else◌, length, refl, subst, sym, bytes_eq, codes}
+use Rattle.std.proofs.Common.{◌≡◌, ◌∙◌, ◌+◌, ◌-◌, ◌<◌, ◌≤◌, ◌==◌, ⊎_elim, ◌⊎◌, inl, inr, ℕ, zero, suc, Bool, true, false, List, [], ◌∷◌, ◌++◌, Option, None, Some, ap, arith, drop, take, if◌then◌else◌, length, refl, subst, sym, bytes_eq, codes}
 use Rattle.std.proofs.lemmas.Bool.{cases_lt}
 use Rattle.std.proofs.lemmas.List.{length-append, length-drop, length-map}
+use Rattle.std.proofs.Math.Seq.{drop-append-add}
+use Rattle.trac_laws.proofs.Parentheses.{found_protected}
 use Rattle.trac_language.specs.declared.fate.Fate.{Fate}
 use Rattle.trac_language.specs.declared.fate.Fate.TheVariants.{Halted, InputEnded, Workspace, Steps, InputFailed, OutputFailed}
 use Rattle.trac_language.specs.declared.mode.Mode.TheVariants.{Active, Neutral as NeutralMode}
@@ -16,8 +18,8 @@ use Rattle.trac_space.specs.declared.cell.Cell.TheVariants.{Byte, Call, Comma}
 use Rattle.trac_space.specs.Texts.{character_of, flat_text, text_of_cells}
 use Rattle.trac_devices.specs.Devices.{Stream}
 use Rattle.trac_forms.specs.Contents.{Contents}
-use Rattle.trac_functions.specs.Flat.{Neutral, memory_of, memory_with, neutral_of, with_cell, with_character, with_comma}
-use Rattle.trac_functions.proofs.FlatLemmas.{neutral_of-push, size-used, text_of-flat}
+use Rattle.trac_functions.specs.Flat.{Neutral, memory_of, memory_with, neutral_of, no_neutral, with_cell, with_cells, with_character, with_comma}
+use Rattle.trac_functions.proofs.FlatLemmas.{neutral_of-push, size-used, text_of-flat, with_cells-append, with_cells-text}
 use Rattle.trac_core.specs.Advancing.{Advanced, EndsAlone, GoesAlone, NeedsMore, StepsAlone, StopsAlone}
 use Rattle.trac_core.specs.Machine.{GoesOn, KeepsLimits, MachineState, moment, state_of}
 use Rattle.trac_core.specs.OpenCalls.{call_performed_by}
@@ -44,6 +46,7 @@ rest_of _ = []
 -- the memory after a quiet step
 abbrev passed_by : Rule → Memory → Memory
 passed_by (DeleteLayout rest) m = record m { active = rest }
+passed_by (AddProtected inside rest) m = add inside (record m { active = rest })
 passed_by (BeginArgument rest) m = record m { active = rest; calls = begin_argument m.calls }
 passed_by (BeginCall mode rest) m = record m { active = rest; calls = begin_call mode m.calls }
 passed_by (AddCharacter c rest) m = add (c ∷ []) (record m { active = rest })
@@ -52,7 +55,7 @@ passed_by _ m = m
 quiet-follows : (r : Rule) (s : State) → is_quiet r ≡ true → follow r s ≡ Next (record s { memory = passed_by r s.memory })
 quiet-follows LoadIdling s e = absurd cc
 quiet-follows (DeleteLayout rest) s e = refl
-quiet-follows (AddProtected inside rest) s e = absurd cc
+quiet-follows (AddProtected inside rest) s e = refl
 quiet-follows ClearActive s e = absurd cc
 quiet-follows (BeginArgument rest) s e = refl
 quiet-follows (BeginCall mode rest) s e = refl
@@ -66,7 +69,7 @@ quiet-step s e = quiet-follows (rule s.memory.active) s e
 need-by-quiet : (r : Rule) (s : State) → is_quiet r ≡ true → need_by r s ≡ size s.memory
 need-by-quiet LoadIdling s e = absurd cc
 need-by-quiet (DeleteLayout rest) s e = refl
-need-by-quiet (AddProtected inside rest) s e = absurd cc
+need-by-quiet (AddProtected inside rest) s e = refl
 need-by-quiet ClearActive s e = absurd cc
 need-by-quiet (BeginArgument rest) s e = refl
 need-by-quiet (BeginCall mode rest) s e = refl
@@ -81,7 +84,7 @@ quiet-need s e = need-by-quiet (rule s.memory.active) s e
 quiet-performs : (r : Rule) (calls : List OpenCall) → is_quiet r ≡ true → (needs_device_by r calls ≡ false) × (call_performed_by r calls ≡ None)
 quiet-performs LoadIdling calls e = absurd cc
 quiet-performs (DeleteLayout rest) calls e = (refl, refl)
-quiet-performs (AddProtected inside rest) calls e = absurd cc
+quiet-performs (AddProtected inside rest) calls e = (refl, refl)
 quiet-performs ClearActive calls e = absurd cc
 quiet-performs (BeginArgument rest) calls e = (refl, refl)
 quiet-performs (BeginCall mode rest) calls e = (refl, refl)
@@ -99,21 +102,30 @@ sign-left true neutral c rest = refl
 sign-left false true c rest = refl
 sign-left false false c rest = refl
 
-other-left : (layout opens comma sign close : Bool) (c : ℕ) (rest : Text) (o : Option (Text × Text)) → let r = if layout then DeleteLayout rest else (if opens then parenthesis_rule o else (if comma then BeginArgument rest else (if sign then number_sign_rule rest else (if close then EndCall rest else AddCharacter c rest)))) in
+-- what stands behind a protected text and its parentheses
+text-left : (c : ℕ) (text inside rest : Text) → protected text ≡ Some (inside, rest) → (rest ≡ drop (length inside + 2) (c ∷ text)) × (length inside + 2 ≤ length (c ∷ text))
+text-left c text inside rest found =
+    let behind : text ≡ inside ++ 41 ∷ rest = ap (drop 1) (found_protected text inside rest found).stands in
+    let more : length inside + 2 ≡ suc (length inside + 1) = omega arith in (
+      sym (drop-append-add inside (41 ∷ rest) 1) ∙ ap (drop (length inside + 1)) (sym behind) ∙ ap (λ n. drop n (c ∷ text)) (sym more),
+      omega (arith, ap (λ t. length t) behind, length-append inside (41 ∷ rest)),
+    )
+
+other-left : (layout opens comma sign close : Bool) (c : ℕ) (rest : Text) (o : Option (Text × Text)) → protected rest ≡ o → let r = if layout then DeleteLayout rest else (if opens then parenthesis_rule o else (if comma then BeginArgument rest else (if sign then number_sign_rule rest else (if close then EndCall rest else AddCharacter c rest)))) in
     is_quiet r ≡ true → rest_of r ≡ drop (taken_by r (length (c ∷ rest))) (c ∷ rest)
-other-left true opens comma sign close c rest o e = refl
-other-left false true comma sign close c rest None e = absurd cc
-other-left false true comma sign close c rest (Some parts) e = absurd cc
-other-left false false true sign close c rest o e = refl
-other-left false false false true close c rest o e =
+other-left true opens comma sign close c rest o found e = refl
+other-left false true comma sign close c rest None found e = absurd cc
+other-left false true comma sign close c rest (Some parts) found e = (text-left c rest parts.0 parts.1 found).0
+other-left false false true sign close c rest o found e = refl
+other-left false false false true close c rest o found e =
     sign-left (bytes_eq (take 1 rest) (codes "(")) (bytes_eq (take 2 rest) (codes "#(")) c rest
-other-left false false false false true c rest o e = absurd cc
-other-left false false false false false c rest o e = ap (λ n. drop n (c ∷ rest)) (sym (one-taken (c == 35)))
+other-left false false false false true c rest o found e = absurd cc
+other-left false false false false false c rest o found e = ap (λ n. drop n (c ∷ rest)) (sym (one-taken (c == 35)))
 
 rest-left : (text : Text) → is_quiet (rule text) ≡ true → rest_of (rule text) ≡ text_left text
 unfolding rule
 rest-left [] e = refl
-rest-left (c ∷ rest) e = other-left (is_layout c) (c == 40) (c == 44) (c == 35) (c == 41) c rest (protected rest) e
+rest-left (c ∷ rest) e = other-left (is_layout c) (c == 40) (c == 44) (c == 35) (c == 41) c rest (protected rest) refl e
 
 add-active : (calls : List OpenCall) (text : Text) (m : Memory) → (add_to calls text m).active ≡ m.active
 add-active [] text m = refl
@@ -126,7 +138,7 @@ add-forms (call ∷ outer) text m = refl
 passed-active : (r : Rule) (m : Memory) → is_quiet r ≡ true → (passed_by r m).active ≡ rest_of r
 passed-active LoadIdling m e = absurd cc
 passed-active (DeleteLayout rest) m e = refl
-passed-active (AddProtected inside rest) m e = absurd cc
+passed-active (AddProtected inside rest) m e = add-active m.calls inside (record m { active = rest })
 passed-active ClearActive m e = absurd cc
 passed-active (BeginArgument rest) m e = refl
 passed-active (BeginCall mode rest) m e = refl
@@ -136,7 +148,7 @@ passed-active (AddCharacter c rest) m e = add-active m.calls (c ∷ []) (record 
 passed-forms : (r : Rule) (m : Memory) → (passed_by r m).forms ≡ m.forms
 passed-forms LoadIdling m = refl
 passed-forms (DeleteLayout rest) m = refl
-passed-forms (AddProtected inside rest) m = refl
+passed-forms (AddProtected inside rest) m = add-forms m.calls inside (record m { active = rest })
 passed-forms ClearActive m = refl
 passed-forms (BeginArgument rest) m = refl
 passed-forms (BeginCall mode rest) m = refl
@@ -146,22 +158,66 @@ passed-forms (AddCharacter c rest) m = add-forms m.calls (c ∷ []) (record m { 
 quiet-active : (m : Memory) → is_quiet (rule m.active) ≡ true → (passed_by (rule m.active) m).active ≡ text_left m.active
 quiet-active m e = passed-active (rule m.active) m e ∙ rest-left m.active e
 
-some-taken : (r : Rule) (n : ℕ) → is_quiet r ≡ true → (0 < taken_by r n) × (taken_by r n ≡ taken_in_row (row_of r))
+some-taken : (r : Rule) (n : ℕ) → is_quiet r ≡ true → 0 < taken_by r n
 some-taken LoadIdling n e = absurd cc
-some-taken (DeleteLayout rest) n e = (omega arith, refl)
-some-taken (AddProtected inside rest) n e = absurd cc
+some-taken (DeleteLayout rest) n e = omega arith
+some-taken (AddProtected inside rest) n e = omega arith
 some-taken ClearActive n e = absurd cc
-some-taken (BeginArgument rest) n e = (omega arith, refl)
-some-taken (BeginCall Active rest) n e = (omega arith, refl)
-some-taken (BeginCall NeutralMode rest) n e = (omega arith, refl)
+some-taken (BeginArgument rest) n e = omega arith
+some-taken (BeginCall Active rest) n e = omega arith
+some-taken (BeginCall NeutralMode rest) n e = omega arith
 some-taken (EndCall rest) n e = absurd cc
-some-taken (AddCharacter c rest) n e = (omega (arith, one-taken (c == 35)), refl)
+some-taken (AddCharacter c rest) n e = omega (arith, one-taken (c == 35))
+
+-- a rule takes as many characters as its row says, or a protected text
+in-row : (r : Rule) (n : ℕ) → is_quiet r ≡ true → (taken_by r n ≡ taken_in_row (row_of r)) ⊎ ((inside : Text) × ((rest : Text) × (r ≡ AddProtected inside rest)))
+in-row LoadIdling n e = absurd cc
+in-row (DeleteLayout rest) n e = inl refl
+in-row (AddProtected inside rest) n e = inr (inside, (rest, refl))
+in-row ClearActive n e = absurd cc
+in-row (BeginArgument rest) n e = inl refl
+in-row (BeginCall Active rest) n e = inl refl
+in-row (BeginCall NeutralMode rest) n e = inl refl
+in-row (EndCall rest) n e = absurd cc
+in-row (AddCharacter c rest) n e = inl refl
+
+-- how much a rule protects
+abbrev inside_of : Rule → Text
+inside_of (AddProtected inside rest) = inside
+inside_of _ = []
+
+no-text : (active neutral : Bool) (text inside rest : Text) → (if active then BeginCall Active (drop 1 text) else (if neutral then BeginCall NeutralMode (drop 2 text) else AddCharacter 35 text)) ≡ AddProtected inside rest → ⊥
+no-text true neutral text inside rest e = cc
+no-text false true text inside rest e = cc
+no-text false false text inside rest e = cc
+
+other-text : (layout opens comma sign close : Bool) (c : ℕ) (text inside rest : Text) (o : Option (Text × Text)) → protected text ≡ o
+    → (if layout then DeleteLayout text else (if opens then parenthesis_rule o else (if comma then BeginArgument text else (if sign then number_sign_rule text else (if close then EndCall text else AddCharacter c text))))) ≡ AddProtected inside rest
+    → length inside + 2 ≤ length (c ∷ text)
+other-text true opens comma sign close c text inside rest o found e = absurd cc
+other-text false true comma sign close c text inside rest None found e = absurd cc
+other-text false true comma sign close c text inside rest (Some parts) found e =
+    let same : parts.0 ≡ inside = ap inside_of e in
+    omega (arith, ap (λ t. length t) same, (text-left c text parts.0 parts.1 found).1)
+other-text false false true sign close c text inside rest o found e = absurd cc
+other-text false false false true close c text inside rest o found e =
+    absurd (no-text (bytes_eq (take 1 text) (codes "(")) (bytes_eq (take 2 text) (codes "#(")) text inside rest e)
+other-text false false false false true c text inside rest o found e = absurd cc
+other-text false false false false false c text inside rest o found e = absurd cc
+
+text-within : (text inside rest : Text) → rule text ≡ AddProtected inside rest → length inside + 2 ≤ length text
+unfolding rule
+text-within [] inside rest e = absurd cc
+text-within (c ∷ text) inside rest e = other-text (is_layout c) (c == 40) (c == 44) (c == 35) (c == 41) c text inside rest (protected text) refl e
 
 -- a quiet step takes some characters, and no more than there are
 pub quiet-taken : (text : Text) → is_quiet (rule text) ≡ true → (0 < taken_by (rule text) (length text)) × ((taken_by (rule text) (length text) ≤ length text) × (length (text_left text) ≡ length text - taken_by (rule text) (length text)))
 quiet-taken text e =
-    let some = some-taken (rule text) (length text) e in
-    (some.0, (omega (arith, some.1, taken-within text), length-drop (taken_by (rule text) (length text)) text))
+    let n = length text in
+    let within : taken_by (rule text) n ≤ n =
+    ⊎_elim (λ row. omega (arith, row, taken-within text))
+    (λ p. omega (arith, ap (λ r. taken_by r n) p.1.1, text-within text p.0 p.1.0 p.1.1)) (in-row (rule text) n e) in
+    (some-taken (rule text) n e, (within, length-drop (taken_by (rule text) n) text))
 
 -- ---- the neutral string
 
@@ -170,16 +226,16 @@ pub record Held (m : Memory) : Type 0 where
   pub cells : List Cell
   pub neutral : neutral_of cells ≡ neutral_in m
 
--- cells of the neutral string after a step, at most one more
-record HeldMore (cells : List Cell) (m : Memory) : Type 0 where
+-- cells of the neutral string after a step, at most so many more
+record HeldMore (cells : List Cell) (m : Memory) (more : ℕ) : Type 0 where
   pub held : Held m
-  pub few : length held.cells ≤ length cells + 1
+  pub few : length held.cells ≤ length cells + more
 
 add-neutral : (calls : List OpenCall) (c : ℕ) (rest : Text) (m : Memory) → with_character calls c (neutral_in m) ≡ neutral_in (add_to calls (c ∷ []) (record m { active = rest }))
 add-neutral [] c rest m = refl
 add-neutral (call ∷ outer) c rest m = refl
 
-begin-neutral : (calls : List OpenCall) (rest : Text) (m : Memory) (held : Held m) → m.calls ≡ calls → HeldMore held.cells (record m { active = rest; calls = begin_argument m.calls })
+begin-neutral : (calls : List OpenCall) (rest : Text) (m : Memory) (held : Held m) → m.calls ≡ calls → HeldMore held.cells (record m { active = rest; calls = begin_argument m.calls }) 1
 begin-neutral [] rest m held e =
     record {
       held =
@@ -200,10 +256,19 @@ begin-neutral (call ∷ outer) rest m held e =
       few = omega (arith, length-append held.cells (Comma ∷ []));
     }
 
-passed-held : (r : Rule) (m : Memory) (held : Held m) → HeldMore held.cells (passed_by r m)
+passed-held : (r : Rule) (m : Memory) (held : Held m) → HeldMore held.cells (passed_by r m) (1 + length (inside_of r))
 passed-held LoadIdling m held = record { held = held; few = omega arith }
 passed-held (DeleteLayout rest) m held = record { held = record { cells = held.cells; neutral = held.neutral }; few = omega arith }
-passed-held (AddProtected inside rest) m held = record { held = held; few = omega arith }
+passed-held (AddProtected inside rest) m held =
+    record {
+      held =
+          record {
+            cells = held.cells ++ flat_text inside;
+            neutral = with_cells-append no_neutral held.cells (flat_text inside) ∙ ap (λ n. with_cells n (flat_text inside)) held.neutral
+                ∙ ap neutral_in (with_cells-text inside (neutral_in m) rest m.forms m.meta);
+          };
+      few = omega (arith, length-append held.cells (flat_text inside), length-map inside Byte);
+    }
 passed-held ClearActive m held = record { held = held; few = omega arith }
 passed-held (BeginArgument rest) m held = begin-neutral m.calls rest m held refl
 passed-held (BeginCall mode rest) m held =
@@ -246,6 +311,18 @@ goes-memory : (m next : MachineState) (source : Stream) (written : Text) → Goe
 goes-memory m next source written goes_on e =
     sym (ap (memory-in m.memory) goes_on.goes) ∙ ap (memory-in m.memory) (quiet-step (state_of (moment m source written)) e)
 
+-- what a quiet rule protects is less than what it takes
+protects-less : (r : Rule) (n : ℕ) → is_quiet r ≡ true → 1 + length (inside_of r) ≤ taken_by r n
+protects-less LoadIdling n e = absurd cc
+protects-less (DeleteLayout rest) n e = omega arith
+protects-less (AddProtected inside rest) n e = omega arith
+protects-less ClearActive n e = absurd cc
+protects-less (BeginArgument rest) n e = omega arith
+protects-less (BeginCall Active rest) n e = omega arith
+protects-less (BeginCall NeutralMode rest) n e = omega arith
+protects-less (EndCall rest) n e = absurd cc
+protects-less (AddCharacter c rest) n e = omega (arith, one-taken (c == 35))
+
 -- a machine `m` after n quiet steps from `old`
 pub record Along (old : MachineState) (n : ℕ) (m : MachineState) : Type 0 where
   pub active : m.memory.active ≡ text_after n old.memory.active
@@ -269,7 +346,7 @@ along-more old n m next so step quiet =
     let active = quiet-active m.memory here in
     let took = quiet-taken m.memory.active here in
     let smaller : size passed ≤ size m.memory =
-    omega (arith, held-size passed more.held, held-size m.memory so.held, more.few, ap (λ t. length t) active, took.0, took.1.0, took.1.1, ap cells (passed-forms (rule m.memory.active) m.memory)) in
+    omega (arith, held-size passed more.held, held-size m.memory so.held, more.few, protects-less (rule m.memory.active) (length m.memory.active) here, ap (λ t. length t) active, took.0, took.1.0, took.1.1, ap cells (passed-forms (rule m.memory.active) m.memory)) in
     record {
       active = ap (λ (m : Memory). m.active) memory ∙ active ∙ ap text_left so.active;
       held = record { cells = more.held.cells; neutral = more.held.neutral ∙ sym (ap neutral_in memory) };

@@ -11,26 +11,26 @@ use Rattle.trac_devices.specs.Devices.{Stream}
 use Rattle.trac_core.specs.Advancing.{GoesAlone, StepsAlone}
 use Rattle.trac_core.specs.Machine.{KeepsLimits, MachineState, moment}
 use Rattle.trac_core.specs.Session.{awaited, next_function}
-use Rattle.trac_core.specs.View.{row_of, taken as taken_by}
+use Rattle.trac_core.specs.View.{dropped, row_of, taken as taken_by}
 use Rattle.trac_core.specs.declared.machine.session.Awaits.TheVariants.{Nothing}
 use Rattle.trac_core.specs.declared.rules.ScanningRule.{ScanningRule}
 use Rattle.trac_core.specs.declared.rules.ScanningRule.TheVariants as row
-use Rattle.trac_events.specs.Calls.{ends_call, protects, reads, seen_call}
+use Rattle.trac_events.specs.Calls.{ends_call, reads, seen_call}
 use Rattle.trac_events.specs.declared.before.Before.{Before}
-use Rattle.trac_events.proofs.Seen.{nothing_awaited, nothing_dropped}
+use Rattle.trac_events.proofs.Seen.{nothing_awaited}
 use Rattle.trac_warnings.specs.Counted.{counts_behind, counts_of}
-use Rattle.trac_warnings.specs.Looked.{LooksBy, place_of}
+use Rattle.trac_warnings.specs.Looked.{LooksBy, open_string, place_of}
 use Rattle.trac_warnings.specs.Origins.{first_origin, in_input, moved, origin_at, shortened, taken}
 use Rattle.trac_warnings.specs.Rows.{IsQuietRow, Trail, argument_origin, begun, is_quiet, none_ends, opened, text_after, text_left, trail_after, trail_behind, trail_of}
-use Rattle.trac_warnings.specs.StepWarnings.{calls_behind, ended, not_ended, rule_warnings, strings_behind}
+use Rattle.trac_warnings.specs.StepWarnings.{calls_behind, ended, not_ended, rest_of, rule_warnings, strings_behind}
 use Rattle.trac_warnings.specs.Watched.{Said, said}
 use Rattle.trac_warnings.specs.declared.origin.Origin.{Origin}
 use Rattle.trac_warnings.specs.declared.trail.Run.{Run}
+use Rattle.trac_warnings.specs.declared.warning.Suspicion.TheVariants.{Dropped}
 use Rattle.trac_warnings.specs.declared.warning.Warning.{Warning}
 use Rattle.trac_warnings.specs.declared.watch.OpenString.{OpenString}
 use Rattle.trac_warnings.specs.declared.watch.Watch.{Watch}
 use Rattle.trac_warnings.proofs.Keeping.{kept_same}
-use Rattle.trac_warnings.proofs.Rows.{goes_on}
 use Rattle.trac_checker.specs.FoundSoFar.{FoundSoFar, with_all}
 use Rattle.trac_checker.specs.Rows.{PassesRow}
 use Rattle.trac_checker.specs.WatchedRuns.{Watches}
@@ -47,49 +47,56 @@ none-gone : (n : ℕ) (strings : List OpenString) → none_ends strings n ≡ tr
 none-gone n [] e = refl
 none-gone n (string ∷ strings) e = rw e refl
 
-sign-goes : (b : Bool) → goes_on (if b then row.NumberSign else row.Character) ≡ true
+-- whether a quiet step may follow a rule of a row
+abbrev may_be_quiet : ScanningRule → Bool
+may_be_quiet row.Idling = false
+may_be_quiet row.EndOfCall = false
+may_be_quiet _ = true
+
+sign-goes : (b : Bool) → may_be_quiet (if b then row.NumberSign else row.Character) ≡ true
 sign-goes true = refl
 sign-goes false = refl
 
-quiet-goes : (r : Rule) → is_quiet r ≡ true → goes_on (row_of r) ≡ true
-quiet-goes LoadIdling e = absurd cc
-quiet-goes (DeleteLayout rest) e = refl
-quiet-goes (AddProtected inside rest) e = absurd cc
-quiet-goes ClearActive e = absurd cc
-quiet-goes (BeginArgument rest) e = refl
-quiet-goes (BeginCall Active rest) e = refl
-quiet-goes (BeginCall Neutral rest) e = refl
-quiet-goes (EndCall rest) e = absurd cc
-quiet-goes (AddCharacter c rest) e = sign-goes (c == 35)
+quiet-goes : (r : Rule) (n : ℕ) → is_quiet r ≡ true → (may_be_quiet (row_of r) ≡ true) × (0 ≡ dropped r n)
+quiet-goes LoadIdling n e = absurd cc
+quiet-goes (DeleteLayout rest) n e = (refl, refl)
+quiet-goes (AddProtected inside rest) n e = (refl, refl)
+quiet-goes ClearActive n e = absurd cc
+quiet-goes (BeginArgument rest) n e = (refl, refl)
+quiet-goes (BeginCall Active rest) n e = (refl, refl)
+quiet-goes (BeginCall Neutral rest) n e = (refl, refl)
+quiet-goes (EndCall rest) n e = absurd cc
+quiet-goes (AddCharacter c rest) n e = (sign-goes (c == 35), refl)
 
 -- what a watch makes of a step by such a rule
 record GoesQuietly {A : Type 0} (watch : Watch A) (r : ScanningRule) : Type 0 where
   pub ends : ends_call r ≡ false
-  pub protects : protects r ≡ false
   pub looks : (m : MachineState) (input : Text) (new : List (Warning A)) → new ≡ [] → LooksBy r watch m input new
   pub moved : (before active : ℕ) (value : Origin) (runs : List Run) → moved r before active value runs ≡ taken (before - active) runs
-  pub warns : (before : Before) (active neutral : ℕ) → rule_warnings r watch before active neutral ≡ []
+  pub warns : (before : Before) (active neutral : ℕ) → before.drops ≡ 0 → rule_warnings r watch before active neutral ≡ []
   pub calls : calls_behind r watch ≡ opened r (place_of watch) watch.calls.items
   pub strings : strings_behind r watch ≡ reverse watch.strings.items
   pub counts : counts_behind r watch ≡ counts_of watch.written.entries
 
-goes-quietly : {A : Type 0} (watch : Watch A) (r : ScanningRule) → goes_on r ≡ true → GoesQuietly watch r
+goes-quietly : {A : Type 0} (watch : Watch A) (r : ScanningRule) → may_be_quiet r ≡ true → GoesQuietly watch r
 goes-quietly watch row.Idling e = absurd cc
-goes-quietly watch row.Protection e = absurd cc
+goes-quietly watch row.Protection e =
+    let warned = λ (drops : ℕ) (before : Before). if drops == 0 then [] else record { origin = place_of watch; suspicion = Dropped; count = before.active - rest_of (open_string watch); text = [] } ∷ [] in
+    record { ends = refl; looks = λ m input new is. is; moved = λ b a v r. refl; warns = λ b a n none. ap (λ k. warned k b) none; calls = refl; strings = refl; counts = refl }
 goes-quietly watch row.EndOfCall e = absurd cc
-goes-quietly watch row.Layout e = record { ends = refl; protects = refl; looks = λ m input new is. is; moved = λ b a v r. refl; warns = λ b a n. refl; calls = refl; strings = refl; counts = refl }
-goes-quietly watch row.Argument e = record { ends = refl; protects = refl; looks = λ m input new is. is; moved = λ b a v r. refl; warns = λ b a n. refl; calls = refl; strings = refl; counts = refl }
-goes-quietly watch row.ActiveCall e = record { ends = refl; protects = refl; looks = λ m input new is. is; moved = λ b a v r. refl; warns = λ b a n. refl; calls = refl; strings = refl; counts = refl }
-goes-quietly watch row.NeutralCall e = record { ends = refl; protects = refl; looks = λ m input new is. is; moved = λ b a v r. refl; warns = λ b a n. refl; calls = refl; strings = refl; counts = refl }
-goes-quietly watch row.NumberSign e = record { ends = refl; protects = refl; looks = λ m input new is. is; moved = λ b a v r. refl; warns = λ b a n. refl; calls = refl; strings = refl; counts = refl }
-goes-quietly watch row.Character e = record { ends = refl; protects = refl; looks = λ m input new is. is; moved = λ b a v r. refl; warns = λ b a n. refl; calls = refl; strings = refl; counts = refl }
+goes-quietly watch row.Layout e = record { ends = refl; looks = λ m input new is. is; moved = λ b a v r. refl; warns = λ b a n none. refl; calls = refl; strings = refl; counts = refl }
+goes-quietly watch row.Argument e = record { ends = refl; looks = λ m input new is. is; moved = λ b a v r. refl; warns = λ b a n none. refl; calls = refl; strings = refl; counts = refl }
+goes-quietly watch row.ActiveCall e = record { ends = refl; looks = λ m input new is. is; moved = λ b a v r. refl; warns = λ b a n none. refl; calls = refl; strings = refl; counts = refl }
+goes-quietly watch row.NeutralCall e = record { ends = refl; looks = λ m input new is. is; moved = λ b a v r. refl; warns = λ b a n none. refl; calls = refl; strings = refl; counts = refl }
+goes-quietly watch row.NumberSign e = record { ends = refl; looks = λ m input new is. is; moved = λ b a v r. refl; warns = λ b a n none. refl; calls = refl; strings = refl; counts = refl }
+goes-quietly watch row.Character e = record { ends = refl; looks = λ m input new is. is; moved = λ b a v r. refl; warns = λ b a n none. refl; calls = refl; strings = refl; counts = refl }
 
 module _ {A : Type 0} (input : Text) (m next : MachineState) (watch after : Watch A) (step : StepsAlone m next) (quiet : is_quiet (rule m.memory.active) ≡ true) (held : Held next.memory) (active_is : next.memory.active ≡ text_left m.memory.active) (empty : watch.warnings.items ≡ []) (open_still : none_ends (reverse watch.strings.items) (length next.memory.active) ≡ true) (trail : trail_of after ≡ trail_behind m.memory.active watch.read (trail_of watch)) (stays : after ≡ record watch { runs = after.runs; calls = after.calls; commas = after.commas }) where
   r : ScanningRule
   r = row_of (rule m.memory.active)
 
   facts : GoesQuietly watch (row_of (rule m.memory.active))
-  facts = goes-quietly watch (row_of (rule m.memory.active)) (quiet-goes (rule m.memory.active) quiet)
+  facts = goes-quietly watch (row_of (rule m.memory.active)) (quiet-goes (rule m.memory.active) (length m.memory.active) quiet).0
 
   abbrev before_of : Before
   before_of =
@@ -121,7 +128,7 @@ module _ {A : Type 0} (input : Text) (m next : MachineState) (watch after : Watc
       ap (map said) (warnings ∙ empty)
       ∙ sym (none-ended rule_is n (place_of watch) (calls_behind rule_is watch) [] (reverse watch.strings.items) open_still)
       ∙ ap (λ t. reported t [] (reverse watch.strings.items)) (sym none)
-      ∙ ap (λ t. reported (map said watch.warnings.items) t (reverse watch.strings.items)) (sym (f.warns before_of n (length held.cells)))
+      ∙ ap (λ t. reported (map said watch.warnings.items) t (reverse watch.strings.items)) (sym (f.warns before_of n (length held.cells) refl))
       ∙ ap (reported (map said watch.warnings.items) (rule_warnings rule_is watch before_of n (length held.cells))) (sym f.strings) in
       record {
         before = before_of;
@@ -133,7 +140,7 @@ module _ {A : Type 0} (input : Text) (m next : MachineState) (watch after : Watc
           nothing_awaited m rule_is refl f.ends,
           refl,
           refl,
-          nothing_dropped (rule m.memory.active) rule_is (length m.memory.active) refl f.protects,
+          (quiet-goes (rule m.memory.active) (length m.memory.active) quiet).1,
           ap (λ b. seen_call (b && (false || reads (awaited (next_function m)))) m) (sym f.ends),
         );
         looks = f.looks m input watch.warnings.items empty;

@@ -95,6 +95,9 @@ fn pass_row<A: Allocator + Copy>(
 {
     let count = watch.follow_row(machine, steps - machine.steps())?;
     let _neutral = machine.neutral();
+    if count == 0 {
+        return Ok(());
+    }
     machine.advance(count);
     Ok(())
 }

@@ -132,8 +132,8 @@ module _ {I O : Type 0} (performed : Standing I O → Option Fate → Standing I
       drive-next need old new room (inr (record { room = refl; allowance = refl; stops = refl }, done (machine_in old) refl refl allowed)) peak_is done_is goes
 
   -- no step more is done
-  pub drive-stays : (declines : Memory → Type 0) (most no_comma_from : ℕ) (next : Option Function) (to : Advance) (s : DrivenSoFar I O) → to ≡ record { progress = record { done = s.done; next = next }; no_comma_from = no_comma_from; steps = at.steps + s.done; peak = s.peak; fate = None } → (s.done ≡ most) ⊎ ((at.steps + s.done ≡ at.allowance) ⊎ declines (memory_of s.at.meta s.at.contents)) → IsDriven s → Driven performed declines most to.progress.done start (standing (advanced_to stops s.at.contents s.at.meta at to) s.at.source s.at.sink)
-  drive-stays declines most no_comma_from next to s is why goes =
+  pub drive-stays : (declines : Memory → Type 0) (most : ℕ) (next : Option Function) (to : Advance) (s : DrivenSoFar I O) → to ≡ record { progress = record { done = s.done; next = next }; steps = at.steps + s.done; peak = s.peak; fate = None } → (s.done ≡ most) ⊎ ((at.steps + s.done ≡ at.allowance) ⊎ declines (memory_of s.at.meta s.at.contents)) → IsDriven s → Driven performed declines most to.progress.done start (standing (advanced_to stops s.at.contents s.at.meta at to) s.at.source s.at.sink)
+  drive-stays declines most next to s is why goes =
       subst (λ (to : Advance). Driven performed declines most to.progress.done start (standing (advanced_to stops s.at.contents s.at.meta at to) s.at.source s.at.sink)) (sym is)
       (standing_in s, (goes, (refl, why)))
 
@@ -145,13 +145,13 @@ module _ {I O : Type 0} (performed : Standing I O → Option Fate → Standing I
     pub step : PerformedFor performed (Some fate) need old.at new
     pub told :
         let last = counted (machine_in old) (memory_of new.meta new.contents) need (Some fate) in
-        to ≡ record { progress = record { done = old.done; next = None }; no_comma_from = to.no_comma_from; steps = last.steps; peak = last.peak; fate = Some fate }
+        to ≡ record { progress = record { done = old.done; next = None }; steps = last.steps; peak = last.peak; fate = Some fate }
 
   pub drive-ends : (declines : Memory → Type 0) (most need : ℕ) (fate : Fate) (to : Advance) (old : DrivenSoFar I O) (new : Stage I O) → LastStep most need fate to old new → IsDriven old → Driven performed declines most to.progress.done start (standing (advanced_to stops new.contents new.meta at to) new.source new.sink)
   drive-ends declines most need fate to old new h goes =
       let m = machine_in old in
       let last = counted m (memory_of new.meta new.contents) need (Some fate) in
-      let told : Advance = record { progress = record { done = old.done; next = None }; no_comma_from = to.no_comma_from; steps = last.steps; peak = last.peak; fate = Some fate } in
+      let told : Advance = record { progress = record { done = old.done; next = None }; steps = last.steps; peak = last.peak; fate = Some fate } in
       let same : last ≡ advanced_to stops new.contents new.meta at told = counted-parts m (memory_of new.meta new.contents) need fate ∙ (λ i. record (advanced_to stops new.contents new.meta at told) { room = sym h.room i }) in
       let ends = subst (λ last. performed (standing_in old) (Some fate) (standing last new.source new.sink)) same (h.step m refl refl h.allowed) in
       let whole : Driven performed declines most told.progress.done start (standing (advanced_to stops new.contents new.meta at told) new.source new.sink) = (standing_in old, (goes, (h.few, ends))) in

@@ -1,5 +1,5 @@
 -- Runs of ordinary characters and commas in a call: each is added or begins an argument.
-use Rattle.trac_core.proofs.Imports.{◌≡◌, ℕ, zero, suc, ◌<◌, ◌≤◌, ◌+◌, Bool, true, false, List, [], ◌∷◌, ◌++◌, length, take, drop, map, All, Some, slice_get, get_or, refl, sym, ap, ◌∙◌, subst, arith, append_assoc, append-nil, length-append, ⊎_elim, inl, inr, ◌==◌, ◌⊎◌, if◌then◌else◌, range_with_len, ne_eqb, eqb-true, cases_lt, get_or_past, get_or_append_left, drop-append-le, get_or-map-range_with_len, length-map-range_with_len, All-head, All-tail, All-push, drop-append-add, Cell, Byte, Comma, IsLastCall, is_call, IsNoCall, NoComma, text_of_cells, character_of, IsByte, turned, Contents, used, memory_of, Scans, is_special, kind_of, IsOrdinary, HasNoCommaFrom, PassesTimes}
+use Rattle.trac_core.proofs.Imports.{◌≡◌, ℕ, zero, suc, ◌<◌, ◌≤◌, ◌+◌, Bool, true, false, List, [], ◌∷◌, ◌++◌, length, take, drop, map, All, Some, slice_get, get_or, refl, sym, ap, ◌∙◌, subst, arith, append_assoc, append-nil, length-append, ⊎_elim, inl, inr, ◌==◌, ◌⊎◌, if◌then◌else◌, range_with_len, ne_eqb, eqb-true, cases_lt, get_or_past, get_or_append_left, get_or_push, drop-append-le, get_or-map-range_with_len, length-map-range_with_len, All-head, All-tail, All-push, drop-append-add, Cell, Byte, Call, Comma, Mode, IsLastCall, is_call, IsNoCall, NoCall, text_of_cells, character_of, IsByte, turned, Contents, used, memory_of, Scans, is_special, kind_of, IsOrdinary, PassesTimes}
 use Rattle.trac_space.specs.Runs.{IsInRun, number_in, turned_by}
 use Rattle.trac_core.proofs.Scanning.{scans-comma}
 use Rattle.trac_core.proofs.StepsInRow.{passes-scans, scans-ordinary}
@@ -52,6 +52,15 @@ last-pushed neutral cell place none last =
       after = subst (All IsNoCall) (sym (drop-append-le (place + 1) neutral (cell ∷ []) (omega (arith, inside)))) (All-push IsNoCall (drop (place + 1) neutral) cell last.after none);
     }
 
+-- a call mark added at the end is that of the innermost call
+pub last-opened : (neutral : List Cell) (mode : Mode) → IsLastCall (neutral ++ Call mode 0 ∷ []) (length neutral)
+last-opened neutral mode =
+    let mark : Cell = Call mode 0 in
+    record {
+      mark = (omega (arith, length-append neutral (mark ∷ [])), subst (λ cell. is_call cell ≡ true) (sym (get_or_push neutral mark (Byte 0) (length neutral) refl)) refl);
+      after = subst NoCall (sym (drop-append-add neutral (mark ∷ []) 1)) (λ k d within. absurd (omega (arith, within)));
+    }
+
 turned-no_call : (c : ℕ) → IsNoCall (turned_by (map kind_of (range_with_len 0 256)) (Byte c))
 turned-no_call c = go (get_or (map kind_of (range_with_len 0 256)) c 0 == 0)
   where
@@ -79,12 +88,6 @@ run-passes meta n place w = go n w w.active
         let others = go n next rest (last-pushed w.neutral cell place (turned-no_call c) last) (All-tail IsByte (Byte c) rest bytes) (omega arith) (All-tail (IsInRun (map kind_of (range_with_len 0 256))) (Byte c) (take n rest) run) in
         (memory_of meta next, (passes-scans meta old next (scans-run old c place refl last less) same, rw (append_assoc w.neutral (cell ∷ []) (turned (map kind_of (range_with_len 0 256)) (take n rest))) at others))
     go (suc n) w (cell ∷ rest) last bytes within run = absurd (All-head IsByte cell rest bytes)
-
--- behind the last comma mark of what is added none stands
-pub no_comma_from-turned : (neutral more : List Cell) (place last : ℕ) → place ≡ length neutral + last → NoComma (drop last more) → HasNoCommaFrom place (neutral ++ more)
-no_comma_from-turned neutral more place last is no_comma_from =
-    let same : drop place (neutral ++ more) ≡ drop last more = ap (λ k. drop k (neutral ++ more)) is ∙ drop-append-add neutral more last in
-    subst NoComma (sym same) no_comma_from
 
 -- the character that a rule was found by is in the run
 pub run-some : (active : List Cell) (n reach c : ℕ) → slice_get (text_of_cells active) 0 ≡ Some c → kind_of c ≤ 1 → 0 < reach → (n < reach → 1 < number_in (map kind_of (range_with_len 0 256)) (get_or active n (Byte 0))) → 0 < n

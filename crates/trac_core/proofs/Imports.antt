@@ -21,7 +21,7 @@ pub use Rattle.trac_core.specs.NamedCalls.{IsAlone, IsNamed}
 pub use Rattle.trac_core.specs.Advancing.{Advanced, EndsAlone, GoesAlone, NeedsMore, StepsAlone, StopsAlone, advanced_to}
 pub use Rattle.trac_core.specs.Driving.{Declined, Driven, GoesBy, PerformedAlone, PerformedFor, PerformedWith, Stage, Standing, StepsBy, StopsBy, stage, standing}
 pub use Rattle.trac_core.specs.Session.{printed_in}
-pub use Rattle.trac_core.specs.StepsInRow.{Advances, AsksFor, IsLayout, IsOrdinary, HasNoCommaFrom, Passes, PassesTimes, SomeSteps, is_special, kind_in, kind_of, passed, peak_after, turning}
+pub use Rattle.trac_core.specs.StepsInRow.{Advances, AsksFor, IsLayout, IsOrdinary, Passes, PassesTimes, SomeSteps, is_special, kind_in, kind_of, passed, peak_after, turning}
 pub use Rattle.trac_language.specs.declared.report.Report.{Report}
 pub use Rattle.trac_devices.specs.Devices.{Breaks, Prints, Sent, Stream, Streams, has_byte}
 pub use Rattle.trac_forms.specs.Contents.{Contents, IsSound, form_at, part_text, used}
@@ -52,7 +52,7 @@ pub use Rattle.trac_language.specs.declared.mode.Mode.TheVariants.{Active}
 pub use Rattle.trac_laws.specs.StateAfter.{state_after}
 pub use Rattle.trac_laws.specs.LastRead.{is_read_string, reads_last, reads_last_by, reads_to_end}
 pub use Rattle.trac_space.specs.Calls.{IsLastCall}
-pub use Rattle.trac_space.specs.Cells.{IsNoCall, NoCall, NoComma, is_call, is_comma, seen}
+pub use Rattle.trac_space.specs.Cells.{IsNoCall, NoCall, is_call, is_comma, seen}
 pub use Rattle.trac_space.specs.Runs.{turned}
 pub use Rattle.trac_space.specs.Texts.{IsByte, character_of, flat_text, text_of_cells}
 pub use Rattle.trac_space.specs.declared.cell.Cell.{Cell}

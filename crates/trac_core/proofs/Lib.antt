@@ -17,7 +17,6 @@ pub mod ReadTexts
 pub mod ReadInPlace
 pub mod Performed
 pub mod Printed
-pub mod NoCommaEnds
 pub mod OrdinaryBlocks
 pub mod ArgumentRuns
 pub mod OpenCalls

@@ -180,16 +180,16 @@ whole-arguments neutral place rest e = ap (λ l. argument (arguments_at neutral 
     go (t ∷ ts) some = refl
 
 -- a plain function reads nothing
-no_comma_from-reads : (f : Function) → is_self_contained f ≡ true → is_read_string f ≡ false
-no_comma_from-reads ReadString h = absurd cc
-no_comma_from-reads _ h = refl
+self_contained-reads : (f : Function) → is_self_contained f ≡ true → is_read_string f ≡ false
+self_contained-reads ReadString h = absurd cc
+self_contained-reads _ h = refl
 
 -- a value that stands behind what was there is delivered
 pub delivered-value : (w mid : Contents) (place : ℕ) (value : Text) (forms : List Form) → IsLastCall w.neutral place → mid ≡ record w { forms = forms; neutral = w.neutral ++ flat_text value } → value_delivered place (length w.neutral) mid ≡ delivered (mode_at w.neutral place) false value place (record w { forms = forms })
 delivered-value w mid place value forms innermost stands =
     rw (stands, drop-append_seam w.neutral (flat_text value), text_of-flat value, take-append_seam w.neutral (flat_text value), get_or_append_left w.neutral (flat_text value) (Byte 0) place innermost.mark.0) refl
 
-module _ (s : Scene) (mid : Contents) (place : ℕ) (f : Function) (rest : List Text) (scanned : Bool) (names : function_at s.contents.neutral place ≡ Some f) (innermost : IsLastCall s.contents.neutral place) (no_comma_from : is_self_contained f ≡ true) (rest_is : rest ≡ drop 1 (arguments_at s.contents.neutral place)) (mode_is : scanned ≡ is_active_mode (mode_at s.contents.neutral place)) where
+module _ (s : Scene) (mid : Contents) (place : ℕ) (f : Function) (rest : List Text) (scanned : Bool) (names : function_at s.contents.neutral place ≡ Some f) (innermost : IsLastCall s.contents.neutral place) (contained : is_self_contained f ≡ true) (rest_is : rest ≡ drop 1 (arguments_at s.contents.neutral place)) (mode_is : scanned ≡ is_active_mode (mode_at s.contents.neutral place)) where
   abbrev named_args : List Text
   named_args = argument (arguments_at s.contents.neutral place) 0 ∷ rest
 
@@ -197,19 +197,19 @@ module _ (s : Scene) (mid : Contents) (place : ℕ) (f : Function) (rest : List 
   input = ending s.source.bytes
 
   -- a call with a value, by the arguments that follow its name
-  no_comma_from-tried : (new : Contents) (needed : ℕ) (value : Text) (forced : Bool) (forms : List Form) → meaning_of f named_args (world_in s input) ≡ Gives (record { value = value; forced = forced; world = world forms s.meta input; printed = [] }) → new ≡ delivered (mode_at s.contents.neutral place) forced value place (record s.contents { forms = forms }) → needed ≡ used s.contents + built (Some f) named_args (world_in s input) → needed ≤ s.contents.room → TriedCall place s None needed (record s { contents = new })
-  no_comma_from-tried new needed value forced forms means stands needs fits =
+  value-tried : (new : Contents) (needed : ℕ) (value : Text) (forced : Bool) (forms : List Form) → meaning_of f named_args (world_in s input) ≡ Gives (record { value = value; forced = forced; world = world forms s.meta input; printed = [] }) → new ≡ delivered (mode_at s.contents.neutral place) forced value place (record s.contents { forms = forms }) → needed ≡ used s.contents + built (Some f) named_args (world_in s input) → needed ≤ s.contents.room → TriedCall place s None needed (record s { contents = new })
+  value-tried new needed value forced forms means stands needs fits =
       let all = whole-arguments s.contents.neutral place rest rest_is in
       tried-answer place (Some f) s (record s { contents = new }) _ needed
       (record { names = names; means = ap (λ args. meaning_of f args (world_in s input)) (sym all) ∙ means; needs = needs ∙ ap (λ args. used s.contents + built (Some f) args (world_in s input)) all; fits = fits })
-      (record { stands = stands; world = refl; prints = sym (append-nil s.written); stays_ended = λ e. e; read_all = λ reads. absurd (let none = ap (λ b. b && not (list_any (λ c. c == s.meta) s.source.bytes)) (no_comma_from-reads f no_comma_from) in cc) })
+      (record { stands = stands; world = refl; prints = sym (append-nil s.written); stays_ended = λ e. e; read_all = λ reads. absurd (let none = ap (λ b. b && not (list_any (λ c. c == s.meta) s.source.bytes)) (self_contained-reads f contained) in cc) })
 
   -- a call that builds a value which stands at the end of neutral
   tried-value : (value : Text) → IsValue f named_args s.contents mid false value → TriedCall place s None (used s.contents + (length mid.neutral - length s.contents.neutral)) (record s { contents = value_delivered place (length s.contents.neutral) mid })
   tried-value value is =
       let w = s.contents in
       let long : length mid.neutral - length w.neutral ≡ length value = rw (is.stands, length-append w.neutral (flat_text value), length-map value Byte) (omega arith) in
-      no_comma_from-tried _ _ value false mid.forms (is.valued.means s.meta input) (delivered-value w mid place value mid.forms innermost is.stands)
+      value-tried _ _ value false mid.forms (is.valued.means s.meta input) (delivered-value w mid place value mid.forms innermost is.stands)
       (ap (λ n. used w + n) (long ∙ sym (is.valued.builds s.meta input))) (omega arith)
 
   -- a call whose value stands before the active string already
@@ -217,7 +217,7 @@ module _ (s : Scene) (mid : Contents) (place : ℕ) (f : Function) (rest : List 
   tried-placed value forced size is =
       let w = s.contents in
       let goes : (forced || is_active_mode (mode_at w.neutral place)) ≡ true = ap (λ b. forced || b) (sym mode_is) ∙ is.goes in
-      no_comma_from-tried (closed mid place) (used w + size) value forced mid.forms (is.valued.means s.meta input)
+      value-tried (closed mid place) (used w + size) value forced mid.forms (is.valued.means s.meta input)
       (ap (λ (c : Contents). closed c place) is.stands ∙ sym (delivered-active (mode_at w.neutral place) forced value place (record w { forms = mid.forms }) goes))
       (ap (λ n. used w + n) (sym is.long ∙ sym (is.valued.builds s.meta input))) is.fits
 
@@ -229,7 +229,7 @@ module _ (s : Scene) (mid : Contents) (place : ℕ) (f : Function) (rest : List 
       let long : length (flat_text value) ≡ size = length-map value Byte ∙ is.long in
       let front : take size (flat_text value ++ w.active) ≡ flat_text value = ap (λ n. take n (flat_text value ++ w.active)) (sym long) ∙ take-append_seam (flat_text value) w.active in
       let left : drop size (flat_text value ++ w.active) ≡ w.active = ap (λ n. drop n (flat_text value ++ w.active)) (sym long) ∙ drop-append_seam (flat_text value) w.active in
-      no_comma_from-tried (settled (Unscanned size) place (length w.neutral) mid) (used w + size) value false mid.forms (is.valued.means s.meta input)
+      value-tried (settled (Unscanned size) place (length w.neutral) mid) (used w + size) value false mid.forms (is.valued.means s.meta input)
       (ap (λ (c : Contents). settled (Unscanned size) place (length w.neutral) c) is.stands
       ∙ ap (λ cells. record w { forms = mid.forms; neutral = take place w.neutral ++ cells; active = drop size (flat_text value ++ w.active) }) front
       ∙ ap (λ cells. record w { forms = mid.forms; neutral = take place w.neutral ++ flat_text value; active = cells }) left
@@ -240,7 +240,7 @@ module _ (s : Scene) (mid : Contents) (place : ℕ) (f : Function) (rest : List 
   tried-defined : (cells : ℕ) → IsDefined f named_args s.contents mid cells → TriedCall place s None (used s.contents + cells) (record s { contents = closed mid place })
   tried-defined cells is =
       let w = s.contents in
-      no_comma_from-tried (closed mid place) (used w + cells) [] false mid.forms (is.means s.meta input)
+      value-tried (closed mid place) (used w + cells) [] false mid.forms (is.means s.meta input)
       (ap (λ (c : Contents). record c { forms = mid.forms; neutral = take place c.neutral }) is.stands ∙ sym (delivered-null (mode_at w.neutral place) place (record w { forms = mid.forms })))
       (ap (λ n. used w + n) (sym (is.builds s.meta input))) (omega arith)
 
@@ -356,11 +356,11 @@ named-at w place end o end_is innermost named is =
     ap (λ l. function_named (argument l 0)) (sym (texts-all w.neutral place end end_is innermost.mark.0)) ∙ sym named ∙ is
 
 -- a function that touches no device, and neither changes the meta character nor ends the run, is plain
-pub no_comma_from-alone : (f : Function) → touches_device (Some f) ≡ false → f ≢ ChangeMeta → f ≢ Halt → is_self_contained f ≡ true
-no_comma_from-alone ReadString alone c g = absurd cc
-no_comma_from-alone ReadCharacter alone c g = absurd cc
-no_comma_from-alone PrintString alone c g = absurd cc
-no_comma_from-alone PrintForm alone c g = absurd cc
-no_comma_from-alone ChangeMeta alone c g = absurd (c refl)
-no_comma_from-alone Halt alone c g = absurd (g refl)
-no_comma_from-alone _ alone c g = refl
+pub self_contained-alone : (f : Function) → touches_device (Some f) ≡ false → f ≢ ChangeMeta → f ≢ Halt → is_self_contained f ≡ true
+self_contained-alone ReadString alone c g = absurd cc
+self_contained-alone ReadCharacter alone c g = absurd cc
+self_contained-alone PrintString alone c g = absurd cc
+self_contained-alone PrintForm alone c g = absurd cc
+self_contained-alone ChangeMeta alone c g = absurd (c refl)
+self_contained-alone Halt alone c g = absurd (g refl)
+self_contained-alone _ alone c g = refl

@@ -45,13 +45,13 @@ prints-shape f forms meta m (Reads r each) i string form = go (each i)
 prints-shape f forms meta m (Ended fate e) i string form = ap printed_in (e i)
 prints-shape f forms meta m (Does value forced forms' meta' printed keeps quiet e) i string form = ap printed_in (e i) ∙ quiet string form
 
-no_comma_from-prints : (f : Function) (args : List Text) (w : World) → f ≢ PrintString → f ≢ PrintForm → printed_in (meaning_of f args w) ≡ []
-no_comma_from-prints f args w = prints-shape f w.forms w.meta _ (shape f args w.forms w.meta) w.input
+silent-prints : (f : Function) (args : List Text) (w : World) → f ≢ PrintString → f ≢ PrintForm → printed_in (meaning_of f args w) ≡ []
+silent-prints f args w = prints-shape f w.forms w.meta _ (shape f args w.forms w.meta) w.input
 
 -- a function that doesn't print, or none
 pub other-prints : (f : Option Function) {g : Option Function} (args : List Text) (w : World) → f ≡ g → g ≢ Some PrintString → g ≢ Some PrintForm → [] ≡ printed_in (meaning f args w)
 other-prints None args w is string form = refl
-other-prints (Some f) args w is string form = sym (no_comma_from-prints f args w (λ e. string (sym is ∙ ap Some e)) (λ e. form (sym is ∙ ap Some e)))
+other-prints (Some f) args w is string form = sym (silent-prints f args w (λ e. string (sym is ∙ ap Some e)) (λ e. form (sym is ∙ ap Some e)))
 
 pub string-prints : (f : Option Function) (args : List Text) (w : World) → f ≡ Some PrintString → argument args 1 ≡ printed_in (meaning f args w)
 unfolding meaning_of
@@ -75,7 +75,7 @@ quiet-prints : (f : Option Function) (args : List Text) (w : World) → prints_o
 quiet-prints None args w quiet = refl
 quiet-prints (Some f) args w quiet =
     let not = λ (g : Function) (e : f ≡ g). subst (λ f. prints_output (Some f) ≡ false) e quiet in
-    no_comma_from-prints f args w (λ e. (let no = not PrintString e in cc)) (λ e. (let no = not PrintForm e in cc))
+    silent-prints f args w (λ e. (let no = not PrintString e in cc)) (λ e. (let no = not PrintForm e in cc))
 
 -- one that performs no call of a function that prints, prints nothing
 rule-prints : (r : Rule) (memory : Memory) (input : Input) → prints_output (performed_by r memory.calls) ≡ false → output_after (follow r (state_with memory input [])) ≡ []

@@ -1,6 +1,6 @@
 -- The string of the idling procedure, read where the scanner would move the characters that it begins with: it is as if
 -- it had been read behind the call of `rs`, and then delivered.
-use Rattle.trac_core.proofs.Imports.{◌≡◌, ◌≢◌, ℕ, ◌+◌, ◌-◌, ◌<◌, ◌≤◌, true, false, [], ◌∷◌, ◌++◌, length, take, drop, All, Some, None, refl, sym, ap, ◌∙◌, subst, arith, codes, length-append, length-map, All-append, All-cons, All-take, drop-append-le, drop-append-add, InputEnded, InputFailed, Workspace, ReadString, Active, Text, Byte, Call, Comma, IsByte, IsNoCall, flat_text, text_of_cells, Contents, used, IsSound, Stream, has_byte, Reads, memory_of, performs, scene, IsCall, ClosesCall, Tried, TriedCall, settled, AtEnd, IsOrdinary, Advances, HasNoCommaFrom, is_comma, Option, Fate, Steps, input_failures, output_failures, inl, LeavesSource, PerformedWith, stage, KeepsFormsAndMeta, counted}
+use Rattle.trac_core.proofs.Imports.{◌≡◌, ◌≢◌, ℕ, ◌+◌, ◌-◌, ◌<◌, ◌≤◌, true, false, [], ◌∷◌, ◌++◌, length, take, drop, All, Some, None, refl, sym, ap, ◌∙◌, subst, arith, codes, length-append, length-map, All-append, All-cons, drop-append-le, drop-append-add, InputEnded, InputFailed, Workspace, ReadString, Active, Text, Byte, Call, Comma, IsByte, IsNoCall, flat_text, text_of_cells, Contents, used, IsSound, Stream, has_byte, Reads, memory_of, performs, scene, IsCall, ClosesCall, Tried, TriedCall, settled, AtEnd, IsOrdinary, Advances, Option, Fate, Steps, input_failures, output_failures, inl, LeavesSource, PerformedWith, stage, KeepsFormsAndMeta, counted}
 use Rattle.std.proofs.Math.Seq.{take-append-add}
 use Rattle.std.proofs.lemmas.List.{take-append-le, length-take-le}
 use Rattle.trac_forms.specs.Contents.{IsStringCell}
@@ -12,7 +12,6 @@ use Rattle.trac_core.specs.StepOutcomes.{TakesAtMost}
 use Rattle.trac_core.specs.StepsInRow.{idling_begun}
 use Rattle.trac_core.specs.declared.outcome.StepOutcome.{StepOutcome}
 use Rattle.trac_core.specs.ReadInPlace.{before_string, reading_string, LeavesFront, ReadsInPlace}
-use Rattle.trac_core.proofs.NoCommaEnds.{bytes-no_comma_from}
 use Rattle.trac_core.proofs.Performing.{function-performs}
 use Rattle.trac_core.proofs.ReadCalls.{read-to-meta, read-some, read-none, read-failed, read-full, reads-take}
 use Rattle.trac_core.proofs.StepsInRow.{characters-pass}
@@ -50,11 +49,6 @@ begun-strings : (w : Contents) → All IsStringCell (idling_begun w).neutral
 begun-strings w =
     All-append IsStringCell before_string (Call Active 0 ∷ Byte 114 ∷ Byte 115 ∷ []) before-strings
     (All-cons IsStringCell (Call Active 0) (Byte 114 ∷ Byte 115 ∷ []) tt (string_cells-text (codes "rs")))
-
--- no comma mark stands behind the call of `ps`
-pub begun-no_comma : (w : Contents) → HasNoCommaFrom 4 (idling_begun w).neutral
-begun-no_comma w =
-    All-cons (λ cell. is_comma cell ≡ false) (Call Active 0) (Byte 114 ∷ Byte 115 ∷ []) refl (bytes-no_comma_from (Byte 114 ∷ Byte 115 ∷ []) (bytes-flat (codes "rs")))
 
 module _ (w p : Contents) (text : Text) (meta : ℕ) (sound : IsSound w) (after : IsSound p) (reads : Reads meta (reading_string w) p text) where
   long : length p.neutral ≡ 4 + length text
@@ -186,11 +180,6 @@ module _ (w p : Contents) (text : Text) (meta : ℕ) (sound : IsSound w) (after 
     pub in-place-long : length new.neutral ≡ 4 + count
     in-place-long =
         ap (λ (w : Contents). length w.neutral) leaves.moved ∙ length-take-le (4 + count) p.neutral leaves.within
-
-    -- none of them is a comma mark
-    pub in-place-no_comma : HasNoCommaFrom 4 new.neutral
-    in-place-no_comma =
-        subst (λ (w : Contents). HasNoCommaFrom 4 w.neutral) (sym moved-to) (bytes-no_comma_from (take count (flat_text text)) (All-take IsByte count (flat_text text) (bytes-flat text)))
 
 module _ {S : Type 0} (tells : S → Type 0) (stream : S → Stream) (failures : S → ℕ) (outcome : StepOutcome) (w p : Contents) (text : Text) (most meta : ℕ) (sound : IsSound w) (after : IsSound p) (reads : Reads meta (reading_string w) p text) (source left : S) where
   abbrev ReadsTo : Option Fate → ℕ → Contents → Type 0

@@ -1,6 +1,6 @@
 -- Steps that perform no call in a row, which are done at once.
 use Rattle.std.specs.Prelude.{◌≡◌, ℕ, zero, suc, max, Bool, true, false, ◌||◌, ◌==◌, ◌+◌, ◌<◌, ◌≤◌}
-use Rattle.std.specs.Prelude.{if◌then◌else◌, length, List, [], ◌∷◌, ◌++◌, drop, Some, None, Result}
+use Rattle.std.specs.Prelude.{if◌then◌else◌, length, [], ◌∷◌, ◌++◌, Some, None, Result}
 use Rattle.std.specs.Prelude.{Ok, Err, slice_get, codes}
 use Rattle.trac_language.specs.declared.mode.Mode.TheVariants.{Active}
 use Rattle.trac_language.specs.Text.{Text}
@@ -11,7 +11,6 @@ use Rattle.trac_laws.specs.LastRead.{reads_to_end}
 use Rattle.trac_space.specs.declared.cell.Cell.{Cell}
 use Rattle.trac_space.specs.declared.cell.Cell.TheVariants.{Call, Comma}
 use Rattle.trac_space.specs.Calls.{IsLastCall}
-use Rattle.trac_space.specs.Cells.{NoComma}
 use Rattle.trac_space.specs.Texts.{text_of_cells, character_of, flat_text}
 use Rattle.trac_forms.specs.Contents.{Contents}
 use Rattle.trac_functions.specs.Flat.{memory_of}
@@ -67,22 +66,12 @@ pub record SomeSteps (n most : ℕ) (old new : Contents) : Type 0 where
   pub few : n ≤ most
   pub shorter : length new.active < length old.active
 
--- no comma mark stands in a neutral string from a place on
-abbrev pub HasNoCommaFrom : ℕ → List Cell → Type 0
-HasNoCommaFrom place neutral = NoComma (drop place neutral)
-
--- where no comma mark stood in the neutral string from a place on, none stands there still
-abbrev pub KeepsNoComma : Contents → Contents → Type 0
-KeepsNoComma old new =
-    (place : ℕ) → HasNoCommaFrom place old.neutral → HasNoCommaFrom place new.neutral
-
 -- what the next step asks for: the idling procedure, since the active string is empty; or the
 -- innermost call, since a right parenthesis that begins that string closes it
 abbrev pub AsksFor : NextAction → Contents → Type 0
 AsksFor Idling w = w.active ≡ []
-AsksFor (EndOfCall call) w =
-    (slice_get (text_of_cells w.active) 0 ≡ Some 41) × IsLastCall w.neutral call.place
-    × HasNoCommaFrom call.no_comma_from w.neutral
+AsksFor (EndOfCall place) w =
+    (slice_get (text_of_cells w.active) 0 ≡ Some 41) × IsLastCall w.neutral place
 
 -- what the front of the active string comes to: at most `most` steps that perform no call, or none of
 -- them, since it asks for a call or for the idling procedure

@@ -15,7 +15,7 @@ ghost use Rattle.trac_core.specs.StepOutcomes.{TakesAtMost, AnswersCall, Stands,
 ghost use Rattle.trac_core.specs.StepOutcomes.{LeavesSource, LeavesSink, EndsQuietly, NoneFailed, HasArguments};
 ghost use Rattle.trac_core.specs.NamedCalls.{IsAlone, IsNamed};
 ghost use Rattle.trac_devices.specs.Devices.{Stream};
-ghost use Rattle.trac_core.specs.StepsInRow.{AsksFor, HasNoCommaFrom};
+ghost use Rattle.trac_core.specs.StepsInRow.{AsksFor};
 ghost use Rattle.trac_functions.specs.Calls.{KeepsRoom};
 
 use crate::delivery::{finish_call, is_active_call};
@@ -23,7 +23,7 @@ use crate::display::print_form;
 use crate::idling::load_idling;
 use crate::input_output::{change_meta, print_string, read_character, read_string};
 use crate::outcome::StepOutcome;
-use crate::scan::{InnermostCall, NextAction};
+use crate::scan::NextAction;
 use trac_devices::{Sink, Source};
 use trac_forms::Work;
 use trac_functions::arguments::{Arguments, CallResult};
@@ -64,35 +64,34 @@ pub(crate) fn perform_next<I: Source, O: Sink>(
 {
     match action {
         NextAction::Idling => load_idling(work),
-        NextAction::EndOfCall(call) => {
+        NextAction::EndOfCall(place) => {
             work.drop_active(1);
-            perform(work, call, meta, source, sink)
+            perform(work, place, meta, source, sink)
         }
     }
 }
 
-/// Performs the innermost call, whose right parenthesis was deleted.
+/// Performs the innermost call, whose mark stands at the place and whose right parenthesis was deleted.
 #[inline(always)]
 fn perform<I: Source, O: Sink>(
     work: &mut Work,
-    call: InnermostCall,
+    place: u32,
     meta: &mut u8,
     source: &mut I,
     sink: &mut O,
 ) -> StepOutcome
-    requires innermost { IsLastCall work.old.neutral call.place }
-    requires no_comma_from { HasNoCommaFrom call.no_comma_from work.old.neutral }
+    requires innermost { IsLastCall work.old.neutral place }
     requires source_counts { I.failure_count source.old < 2 ^ 64 - 1 }
     requires sink_counts { O.failure_count sink.old < 2 ^ 64 - 1 }
     requires sound { IsSound work.old }
     ensures tried { I.tells source.old → O.tells sink.old →
-        TriedCall call.place (scene work.old meta.old (I.stream source.old) (O.written sink.old))
+        TriedCall place (scene work.old meta.old (I.stream source.old) (O.written sink.old))
         result.fate result.need
         (scene work.new meta.new (I.stream source.new) (O.written sink.new)) }
     ensures source { LeavesSource I.tells I.failure_count result.fate
-        (function_at work.old.neutral call.place) source.old source.new }
+        (function_at work.old.neutral place) source.old source.new }
     ensures sink { LeavesSink O.tells O.flushed O.written O.lent O.failure_count result.fate
-        (function_at work.old.neutral call.place) sink.old sink.new }
+        (function_at work.old.neutral place) sink.old sink.new }
     ensures unspent { result.fate ≢ Some Fate.Steps }
     ensures stay { result.fate ≢ None →
         (work.new.forms ≡ work.old.forms) × (meta.new ≡ meta.old) }
@@ -103,10 +102,10 @@ fn perform<I: Source, O: Sink>(
 {
     let before = work.used();
     let part = Part {
-        from: call.place,
+        from: place,
         to: work.neutral_len(),
     };
-    let parts = named(work, call);
+    let parts = named(work, place);
     let Some(function) = parts.function else {
         return finish_call(work, part, before, nothing(work, parts));
     };
@@ -149,23 +148,21 @@ pub(crate) struct NamedCall {
     arguments: Arguments,
 }
 
-/// The parts of the innermost call.
+/// The parts of the innermost call, whose mark stands at the place.
 #[inline(always)]
-pub(crate) fn named(work: &Work, call: InnermostCall) -> NamedCall
-    requires innermost { IsLastCall work.now.neutral call.place }
-    requires no_comma_from { HasNoCommaFrom call.no_comma_from work.now.neutral }
+pub(crate) fn named(work: &Work, place: u32) -> NamedCall
+    requires innermost { IsLastCall work.now.neutral place }
     requires sound { IsSound work.now }
     ensures named { IsNamed result work.now }
-    ensures place { result.place ≡ call.place }
+    ensures place { result.place ≡ place }
 {
     let mut arguments = Arguments {
-        from: call.place + 1,
+        from: place + 1,
         end: work.neutral_len(),
-        no_comma_from: call.no_comma_from,
-        scanned: is_active_call(work, call.place),
+        scanned: is_active_call(work, place),
     };
     NamedCall {
-        place: call.place,
+        place,
         function: arguments.function(work),
         arguments,
     }

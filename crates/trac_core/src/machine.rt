@@ -44,8 +44,6 @@ pub use session::Awaits;
 pub struct Machine<'a> {
     work: Work<'a>,
     meta: u8,
-    /// A place of the neutral string from which on no comma mark stands.
-    no_comma_from: u32,
     allowance: u64,
     steps: u64,
     peak: u32,
@@ -59,7 +57,6 @@ impl<'a> Model for Machine<'a> {
     ghost use Rattle.trac_forms.specs.Contents.{IsSound};
     ghost use Rattle.trac_functions.specs.Flat.{memory_of};
     ghost use Rattle.trac_core.specs.Machine.{MachineState};
-    ghost use Rattle.trac_core.specs.StepsInRow.{HasNoCommaFrom};
 
     ghost Value = { MachineState };
 
@@ -73,8 +70,7 @@ impl<'a> Model for Machine<'a> {
       stops = m.stops;
     } };
 
-    ghost invariant = { λ m. (m.steps ≤ m.allowance) × (m.peak ≤ m.work.room) × IsSound m.work
-        × HasNoCommaFrom m.no_comma_from m.work.neutral };
+    ghost invariant = { λ m. (m.steps ≤ m.allowance) × (m.peak ≤ m.work.room) × IsSound m.work };
 }
 
 impl<'a> Machine<'a> {
@@ -87,7 +83,6 @@ impl<'a> Machine<'a> {
         Machine {
             work: Work::over(block),
             meta: b'\'',
-            no_comma_from: 0,
             allowance: steps,
             steps: 0,
             peak: 0,
@@ -167,12 +162,10 @@ impl<'a> Machine<'a> {
             });
         }
         let need = self.work.used();
-        let Some(action) = scan_once(&mut self.work, self.no_comma_from) else {
-            self.no_comma_from = self.work.neutral_len();
+        let Some(action) = scan_once(&mut self.work) else {
             return self.count(StepOutcome { fate: None, need });
         };
         let outcome = perform_next(&mut self.work, action, &mut self.meta, source, sink);
-        self.no_comma_from = self.work.neutral_len();
         self.count(outcome)
     }
 

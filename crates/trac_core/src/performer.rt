@@ -6,7 +6,7 @@ ghost use Rattle.trac_language.specs.Store.{cells};
 ghost use Rattle.trac_language.specs.declared.fate.Fate.{Fate};
 ghost use Rattle.trac_forms.specs.Contents.{IsSound};
 ghost use Rattle.trac_functions.specs.Calls.{KeepsRoom};
-ghost use Rattle.trac_core.specs.StepsInRow.{AsksFor, HasNoCommaFrom, idling_begun};
+ghost use Rattle.trac_core.specs.StepsInRow.{AsksFor, idling_begun};
 ghost use Rattle.trac_core.specs.Performed.{needs_device};
 ghost use Rattle.trac_core.specs.OpenCalls.{stops_at};
 ghost use Rattle.trac_core.specs.Driving.{Stage, stage, Standing, PerformedFor, Declined};
@@ -74,7 +74,6 @@ pub(crate) trait Performer<I, O>: Copy {
             (work.new ≡ idling_begun work.old) × ((left.new ≡ left.old) × (source.new ≡ source.old)) }
         ensures read { IfSome result (λ outcome. ReadsOn (performed self) outcome (left.old - left.new - 1)
             (stage (idling_begun work.old) meta source.old sink.now) work.new source.new) }
-        ensures no_comma_from { IfSome result (λ outcome. outcome.fate ≡ None → HasNoCommaFrom 4 work.new.neutral) }
         ensures left { left.new ≤ left.old }
         ensures goes_on { IfSome result (λ outcome. outcome.fate ≡ None → left.new < left.old) }
         ensures ends { IfSome result (λ outcome. outcome.fate ≢ None → left.new ≡ left.old) }
@@ -157,8 +156,8 @@ impl Performer<(), ()> for Alone {
     ) -> Result<StepOutcome, Option<Function>> {
         match action {
             NextAction::Idling => Ok(load_idling(work)),
-            NextAction::EndOfCall(call) => {
-                let call = named(work, call);
+            NextAction::EndOfCall(place) => {
+                let call = named(work, place);
                 if needs_device(work, call) {
                     return Err(call.function);
                 }

@@ -4,7 +4,7 @@ ghost use Rattle.trac_language.specs.Store.{cells};
 ghost use Rattle.trac_space.specs.Texts.{IsByte, flat_text};
 ghost use Rattle.trac_forms.specs.Contents.{IsSound, used};
 ghost use Rattle.trac_functions.specs.Calls.{KeepsRoom};
-ghost use Rattle.trac_core.specs.StepsInRow.{idling_begun, HasNoCommaFrom};
+ghost use Rattle.trac_core.specs.StepsInRow.{idling_begun};
 ghost use Rattle.trac_core.specs.ReadInPlace.{ReadsInPlace, LeavesFront, behind_string};
 
 use crate::outcome::StepOutcome;
@@ -48,7 +48,6 @@ pub(crate) fn read_in_place<I: Source>(
     requires sound { IsSound work.old }
     ensures reads { ReadsInPlace I.tells I.stream I.failure_count result most meta (idling_begun work.old)
         source.old work.new source.new }
-    ensures no_comma_from { result.fate ≡ None → HasNoCommaFrom 4 work.new.neutral }
     ensures fits { result.need ≤ work.old.room }
     ensures keeps { KeepsRoom work.old work.new }
 {

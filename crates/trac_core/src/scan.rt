@@ -6,14 +6,14 @@ ghost use Rattle.trac_space.specs.Texts.{text_of_cells, IsByte};
 ghost use Rattle.trac_forms.specs.Contents.{used, IsSound};
 ghost use Rattle.trac_core.specs.StepOutcomes.{Scans};
 ghost use Rattle.trac_core.specs.StepsInRow.{IsOrdinary, IsLayout, Advances, SomeSteps};
-ghost use Rattle.trac_core.specs.StepsInRow.{ComesTo, AsksFor, HasNoCommaFrom, KeepsNoComma, kind_of};
+ghost use Rattle.trac_core.specs.StepsInRow.{ComesTo, AsksFor, kind_of};
 ghost use Rattle.trac_core.specs.Rules.{Begins, Opens};
 ghost use Rattle.trac_space.specs.Calls.{IsLastCall};
 ghost use Rattle.trac_functions.specs.Calls.{KeepsRoom};
 
+use crate::long_runs::LongRuns;
 use crate::machine::closing::closed_call;
 use crate::rules::{ScanningRule, rule_of};
-use crate::run_hints::RunHints;
 use crate::runs::{KINDS, layout_characters, matching, ordinary_characters};
 use trac_forms::Work;
 use trac_language::Mode;
@@ -51,23 +51,12 @@ pub(crate) fn is_at(work: &Work, place: u32, byte: u8) -> bool
 pub(crate) enum NextAction {
     /// It is empty: the idling procedure.
     Idling,
-    /// A right parenthesis: the innermost call.
-    EndOfCall(InnermostCall),
-}
-
-/// The innermost call that is open.
-#[derive(Clone, Copy, Debug, PartialEq, Eq)]
-pub(crate) struct InnermostCall {
-    /// Where its mark stands in the neutral string.
-    pub(crate) place: u32,
-    /// A place of that string from which on no comma mark stands.
-    pub(crate) no_comma_from: u32,
+    /// A right parenthesis: the innermost call, whose mark stands at this place of the neutral string.
+    EndOfCall(u32),
 }
 
 /// One step that performs no call. Gives what the step asks for instead where it does perform one.
-/// From place `no_comma_from` on no comma mark stands in the neutral string.
-pub(crate) fn scan_once(work: &mut Work, no_comma_from: u32) -> Option<NextAction>
-    requires no_comma_from { HasNoCommaFrom no_comma_from work.old.neutral }
+pub(crate) fn scan_once(work: &mut Work) -> Option<NextAction>
     requires sound { IsSound work.old }
     ensures comes { MatchOption result
         (Advances 1 work.old work.new)
@@ -75,12 +64,9 @@ pub(crate) fn scan_once(work: &mut Work, no_comma_from: u32) -> Option<NextActio
     ensures keeps { KeepsRoom work.old work.new }
 {
     if let Some(place) = closed_call(work) {
-        return Some(NextAction::EndOfCall(InnermostCall {
-            place,
-            no_comma_from,
-        }));
+        return Some(NextAction::EndOfCall(place));
     }
-    match scan_steps(work, 1, &mut RunHints::new(no_comma_from)) {
+    match scan_steps(work, 1, &mut LongRuns::none()) {
         Ok(_) => None,
         Err(action) => Some(action),
     }
@@ -93,13 +79,11 @@ pub(crate) fn scan_once(work: &mut Work, no_comma_from: u32) -> Option<NextActio
 pub(crate) fn scan_steps(
     work: &mut Work,
     most: u64,
-    hints: &mut RunHints,
+    long_runs: &mut LongRuns,
 ) -> Result<u64, NextAction>
     requires some { 0 < most }
-    requires no_comma_from { HasNoCommaFrom hints.old.no_comma_from work.old.neutral }
     requires sound { IsSound work.old }
     ensures comes { ComesTo result most work.old work.new }
-    ensures no_comma_from { HasNoCommaFrom hints.new.no_comma_from work.new.neutral }
     ensures keeps { KeepsRoom work.old work.new }
 {
     match next_rule(work) {
@@ -109,15 +93,15 @@ pub(crate) fn scan_steps(
             protect(work);
             Ok(1)
         }
-        ScanningRule::Argument => Ok(begin_argument(work, most, hints)),
-        ScanningRule::ActiveCall => Ok(begin_call(work, 2, Mode::Active, most, hints)),
-        ScanningRule::NeutralCall => Ok(begin_call(work, 3, Mode::Neutral, most, hints)),
+        ScanningRule::Argument => Ok(begin_argument(work, most, *long_runs)),
+        ScanningRule::ActiveCall => Ok(begin_call(work, 2, Mode::Active, most, *long_runs)),
+        ScanningRule::NeutralCall => Ok(begin_call(work, 3, Mode::Neutral, most, *long_runs)),
         ScanningRule::NumberSign => {
             add_number_sign(work);
             Ok(1)
         }
-        ScanningRule::EndOfCall => end_call(work, hints.no_comma_from),
-        ScanningRule::Character => Ok(add_characters(work, most, hints)),
+        ScanningRule::EndOfCall => end_call(work),
+        ScanningRule::Character => Ok(add_characters(work, most, long_runs)),
     }
 }
 
@@ -133,19 +117,14 @@ fn next_rule(work: &Work) -> ScanningRule
 /// A right parenthesis closes the innermost call, or, where none is
 /// open, is deleted (this processor's own choice).
 #[inline]
-fn end_call(work: &mut Work, no_comma_from: u32) -> Result<u64, NextAction>
+fn end_call(work: &mut Work) -> Result<u64, NextAction>
     requires closes { slice_get (text_of_cells work.old.active) 0 ≡ Some 41 }
-    requires no_comma_from { HasNoCommaFrom no_comma_from work.old.neutral }
     requires sound { IsSound work.old }
     ensures comes { ComesTo result 1 work.old work.new }
-    ensures no_comma_from { KeepsNoComma work.old work.new }
     ensures keeps { KeepsRoom work.old work.new }
 {
     match work.last_call() {
-        Some(place) => Err(NextAction::EndOfCall(InnermostCall {
-            place,
-            no_comma_from,
-        })),
+        Some(place) => Err(NextAction::EndOfCall(place)),
         None => {
             work.drop_active(1);
             Ok(1)
@@ -157,101 +136,83 @@ fn end_call(work: &mut Work, no_comma_from: u32) -> Result<u64, NextAction>
 /// commas between them too. A run that follows two long ones, or stands in no call, is looked at
 /// before it is moved; a run with commas is not long. Gives how many steps these are.
 #[inline]
-fn add_characters(work: &mut Work, most: u64, hints: &mut RunHints) -> u64
+fn add_characters(work: &mut Work, most: u64, long_runs: &mut LongRuns) -> u64
     requires some { 0 < most }
     requires first { (c : ℕ) ×
         ((slice_get (text_of_cells work.old.active) 0 ≡ Some c) × IsOrdinary c) }
-    requires no_comma_from { HasNoCommaFrom hints.old.no_comma_from work.old.neutral }
     requires sound { IsSound work.old }
     ensures passes { SomeSteps result most work.old work.new }
-    ensures no_comma_from { HasNoCommaFrom hints.new.no_comma_from work.new.neutral }
     ensures keeps { KeepsRoom work.old work.new }
 {
-    let before = hints.no_comma_from;
-    let count = if hints.long_runs_follow() || work.last_call().is_none() {
+    let count = if long_runs.are_in_a_row() || work.last_call().is_none() {
         add_long_run(work, most)
     } else {
-        add_run(work, most, hints)
+        add_run(work, most)
     };
-    let is_long = count >= MOVED_ONE_BY_ONE && hints.no_comma_from == before;
-    hints.count_run(is_long);
+    let without_comma = work.neutral_len().saturating_sub(work.no_comma_from());
+    long_runs.count_run(count >= MOVED_ONE_BY_ONE && count <= u64::from(without_comma));
     count
 }
 
 /// A comma is deleted. Where a call is open, a new argument of the innermost begins, and what
 /// follows is added as by `add_characters`, unless long runs are. Gives how many steps they were.
 #[inline]
-fn begin_argument(work: &mut Work, most: u64, hints: &mut RunHints) -> u64
+fn begin_argument(work: &mut Work, most: u64, long_runs: LongRuns) -> u64
     requires some { 0 < most }
     requires first { slice_get (text_of_cells work.old.active) 0 ≡ Some 44 }
-    requires no_comma_from { HasNoCommaFrom hints.old.no_comma_from work.old.neutral }
     requires sound { IsSound work.old }
     ensures passes { SomeSteps result most work.old work.new }
-    ensures no_comma_from { HasNoCommaFrom hints.new.no_comma_from work.new.neutral }
-    ensures runs { hints.new.long_runs ≡ hints.old.long_runs }
     ensures keeps { KeepsRoom work.old work.new }
 {
     if work.last_call().is_none() {
         work.drop_active(1);
         return 1;
     }
-    if hints.long_runs_follow() {
+    if long_runs.are_in_a_row() {
         work.active_to_cell(1, Cell::Comma);
-        hints.no_comma_from = work.neutral_len();
         return 1;
     }
-    add_run(work, most, hints)
+    add_run(work, most)
 }
 
 /// Adds the ordinary characters and the commas at the front of the active string where a call is
 /// open, at most `most` and at most `MOVED_ONE_BY_ONE`. Gives how many steps these are: 0 if another character
 /// stands there.
 #[inline(always)]
-fn add_run(work: &mut Work, most: u64, hints: &mut RunHints) -> u64
+fn add_run(work: &mut Work, most: u64) -> u64
     requires opened { (place : ℕ) × IsLastCall work.old.neutral place }
-    requires no_comma_from { HasNoCommaFrom hints.old.no_comma_from work.old.neutral }
     requires sound { IsSound work.old }
     ensures passes { Advances result work.old work.new }
     ensures few { result ≤ most }
     ensures some { (c : ℕ) → slice_get (text_of_cells work.old.active) 0 ≡ Some c →
         kind_of c ≤ 1 → 0 < most → 0 < result }
     ensures shorter { length work.new.active + result ≡ length work.old.active }
-    ensures no_comma_from { HasNoCommaFrom hints.new.no_comma_from work.new.neutral }
-    ensures runs { hints.new.long_runs ≡ hints.old.long_runs }
     ensures keeps { KeepsRoom work.old work.new }
 {
     let reach = most.min(u64::from(work.active_len()));
     // A constant makes a shorter loop.
     if reach >= MOVED_ONE_BY_ONE {
-        add_run_within(work, MOVED_ONE_BY_ONE as u32, hints)
+        add_run_within(work, MOVED_ONE_BY_ONE as u32)
     } else {
-        add_run_within(work, reach as u32, hints)
+        add_run_within(work, reach as u32)
     }
 }
 
 /// Adds the ordinary characters and the commas among the first `reach` characters of the active
 /// string, up to the first other one, where a call is open. Gives how many steps these are.
-#[inline]
-fn add_run_within(work: &mut Work, reach: u32, hints: &mut RunHints) -> u64
+#[inline(always)]
+fn add_run_within(work: &mut Work, reach: u32) -> u64
     requires opened { (place : ℕ) × IsLastCall work.old.neutral place }
     requires within { reach ≤ length work.old.active }
-    requires no_comma_from { HasNoCommaFrom hints.old.no_comma_from work.old.neutral }
     requires sound { IsSound work.old }
     ensures passes { Advances result work.old work.new }
     ensures few { result ≤ reach }
     ensures some { (c : ℕ) → slice_get (text_of_cells work.old.active) 0 ≡ Some c →
         kind_of c ≤ 1 → 0 < reach → 0 < result }
     ensures shorter { length work.new.active + result ≡ length work.old.active }
-    ensures no_comma_from { HasNoCommaFrom hints.new.no_comma_from work.new.neutral }
-    ensures runs { hints.new.long_runs ≡ hints.old.long_runs }
     ensures keeps { KeepsRoom work.old work.new }
 {
-    let before = work.neutral_len();
-    let run = work.run_to_neutral(reach, KINDS);
-    if run.no_comma_from > 0 {
-        hints.no_comma_from = before + run.no_comma_from;
-    }
-    u64::from(run.len)
+    u64::from(work.run_to_neutral(reach, KINDS))
 }
 
 /// Adds the ordinary characters at the front of the active string, at most `most`: first it looks how
@@ -263,7 +224,6 @@ fn add_long_run(work: &mut Work, most: u64) -> u64
         ((slice_get (text_of_cells work.old.active) 0 ≡ Some c) × IsOrdinary c) }
     requires sound { IsSound work.old }
     ensures passes { SomeSteps result most work.old work.new }
-    ensures no_comma_from { KeepsNoComma work.old work.new }
     ensures keeps { KeepsRoom work.old work.new }
 {
     let count = 1 + ordinary_characters(after_first(work, most));
@@ -280,7 +240,6 @@ fn delete_layout(work: &mut Work, most: u64) -> u64
         ((slice_get (text_of_cells work.old.active) 0 ≡ Some c) × IsLayout c) }
     requires sound { IsSound work.old }
     ensures passes { SomeSteps result most work.old work.new }
-    ensures no_comma_from { KeepsNoComma work.old work.new }
     ensures keeps { KeepsRoom work.old work.new }
 {
     let count = 1 + layout_characters(after_first(work, most));
@@ -312,7 +271,6 @@ fn protect(work: &mut Work)
     requires sound { IsSound work.old }
     requires first { slice_get (text_of_cells work.old.active) 0 ≡ Some 40 }
     ensures scans { Scans work.old work.new (used work.old) }
-    ensures no_comma_from { KeepsNoComma work.old work.new }
     ensures no_larger { used work.new ≤ used work.old }
     ensures shorter { length work.new.active < length work.old.active }
     ensures keeps { KeepsRoom work.old work.new }
@@ -332,22 +290,19 @@ fn protect(work: &mut Work)
 /// mark stands last in the neutral one. What begins its name is added as by `add_run`, unless long
 /// runs are. Gives how many steps they were.
 #[inline(always)]
-fn begin_call(work: &mut Work, characters: u32, mode: Mode, most: u64, hints: &mut RunHints) -> u64
+fn begin_call(work: &mut Work, characters: u32, mode: Mode, most: u64, long_runs: LongRuns) -> u64
     requires some { 0 < most }
     requires one { 0 < characters }
     requires first { Opens mode characters (text_of_cells work.old.active) }
-    requires no_comma_from { HasNoCommaFrom hints.old.no_comma_from work.old.neutral }
     requires sound { IsSound work.old }
     ensures passes { SomeSteps result most work.old work.new }
-    ensures no_comma_from { HasNoCommaFrom hints.new.no_comma_from work.new.neutral }
-    ensures runs { hints.new.long_runs ≡ hints.old.long_runs }
     ensures keeps { KeepsRoom work.old work.new }
 {
     work.active_to_cell(characters, Cell::Call(mode, 0));
-    if hints.long_runs_follow() {
+    if long_runs.are_in_a_row() {
         return 1;
     }
-    1 + add_run(work, most - 1, hints)
+    1 + add_run(work, most - 1)
 }
 
 /// A number sign that opens no call goes to the end of the neutral string.
@@ -355,7 +310,6 @@ fn add_number_sign(work: &mut Work)
     requires sound { IsSound work.old }
     requires first { Begins ScanningRule.NumberSign (text_of_cells work.old.active) }
     ensures scans { Scans work.old work.new (used work.old) }
-    ensures no_comma_from { KeepsNoComma work.old work.new }
     ensures no_larger { used work.new ≤ used work.old }
     ensures shorter { length work.new.active < length work.old.active }
     ensures keeps { KeepsRoom work.old work.new }

@@ -6,7 +6,7 @@ pub use Rattle.std.proofs.lemmas.List.Sums.{count_by_more_no, count_by_more_yes,
 pub use Rattle.std.proofs.lemmas.Option.{unwrap_or-slice_get}
 pub use Rattle.std.specs.List.{list_all, position_or_len, prefix_len}
 pub use Rattle.std.specs.Prelude.{MatchOption, count_by, slice_get, unwrap_or}
-pub use Rattle.trac_events.specs.Calls.{argument_of}
+pub use Rattle.trac_events.specs.Calls.{from_argument}
 pub use Rattle.trac_events.specs.Changes.{is_same}
 pub use Rattle.trac_events.specs.Places.{behind_layout, behind_text}
 pub use Rattle.trac_functions.specs.Flat.{mode_of}

@@ -6,3 +6,6 @@ mod Imports
 pub mod Sources
 pub mod ArgumentLengths
 pub mod Seen
+mod Columns
+mod SoughtBytes
+pub mod Awaiting

@@ -25,10 +25,18 @@ use Rattle.trac_events.specs.declared.before.Before.{Before}
 abbrev pub top_frame : List Cell → ℕ → List Cell
 top_frame neutral mark = drop (mark + 1) neutral
 
+-- the cells behind the first k comma marks; none if there are fewer
+abbrev pub from_argument : List Cell → ℕ → List Cell
+from_argument cells zero = cells
+from_argument cells (suc k) = from_argument (drop (position_or_len is_comma cells + 1) cells) k
+
+-- the cells before the first comma mark
+abbrev pub first_argument : List Cell → List Cell
+first_argument cells = take (position_or_len is_comma cells) cells
+
 -- argument k, from 0, of cells that comma marks part
 abbrev pub argument_of : List Cell → ℕ → List Cell
-argument_of cells zero = take (position_or_len is_comma cells) cells
-argument_of cells (suc k) = argument_of (drop (position_or_len is_comma cells + 1) cells) k
+argument_of cells k = first_argument (from_argument cells k)
 
 -- whether a step reads
 abbrev pub reads : Awaits → Bool

@@ -1,3 +1,4 @@
+pub mod ByteSearch
 pub mod Places
 pub mod Calls
 pub mod Changes

@@ -1,9 +1,13 @@
 //! What you can see of a machine before a step, and the value of a call after it.
-ghost use Rattle.std.specs.Prelude.{◌≡◌};
+ghost use Rattle.std.specs.Prelude.{◌≡◌, false};
+ghost use Rattle.trac_core.specs.Session.{awaited, next_function};
+ghost use Rattle.trac_core.specs.declared.machine.session.Awaits.TheVariants.{Nothing};
 ghost use Rattle.trac_events.specs.Calls.{IsSeen, SeesValue, ends_call, protects, reads, value_behind};
 ghost use Rattle.trac_events.specs.Calls.{DepthFollows, depth_in};
 
+use crate::call::{arguments_of, function_of};
 use trac_core::{Awaits, CallMark, Machine, ScanningRule};
+use trac_language::Function;
 use trac_space::Cell;
 
 /// What you can see of a machine before a step.
@@ -37,7 +41,7 @@ impl Before {
     {
         let rule = machine.next_rule();
         let awaits = if ends_call(rule) {
-            machine.awaits()
+            awaited(machine)
         } else {
             Awaits::Nothing
         };
@@ -106,6 +110,40 @@ fn value_behind<'m>(
     } else {
         &[]
     }
+}
+
+// What the next step reads. The machine is asked only if the innermost call reads.
+#[inline(always)]
+fn awaited(machine: &Machine) -> Awaits
+    ensures { result ≡ awaited (next_function machine.now) }
+{
+    if may_read(machine) {
+        machine.awaits()
+    } else {
+        Awaits::Nothing
+    }
+}
+
+// Whether the innermost call is one of a function that reads.
+#[inline(always)]
+fn may_read(machine: &Machine) -> bool
+    ensures { result ≡ false → awaited (next_function machine.now) ≡ Nothing }
+{
+    let neutral = machine.neutral();
+    match machine.call_mark(0) {
+        Some(mark) => reads_input(function_of(arguments_of(neutral, mark.place))),
+        None => false,
+    }
+}
+
+// Whether a call of this function reads.
+fn reads_input(function: Option<Function>) -> bool
+    ensures { result ≡ false → awaited function ≡ Nothing }
+{
+    matches!(
+        function,
+        Some(Function::ReadString | Function::ReadCharacter)
+    )
 }
 
 // Whether a step by this rule performs a call, if one is open.

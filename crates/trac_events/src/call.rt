@@ -4,7 +4,7 @@ ghost use Rattle.std.specs.List.{position_or_len};
 ghost use Rattle.trac_language.specs.Function.{function_named};
 ghost use Rattle.trac_space.specs.Cells.{is_comma};
 ghost use Rattle.trac_space.specs.Texts.{text_of_cells};
-ghost use Rattle.trac_events.specs.Calls.{argument_of, top_frame};
+ghost use Rattle.trac_events.specs.Calls.{argument_of, from_argument, top_frame};
 ghost use Rattle.trac_events.specs.Changes.{pointer_of};
 
 use crate::change::pointer_of;
@@ -26,11 +26,20 @@ pub fn arguments_of(neutral: &[Cell], mark: usize) -> &[Cell]
 pub fn argument(arguments: &[Cell], k: u32) -> &[Cell]
     ensures { result.now ≡ argument_of arguments.now k }
 {
+    let rest = from_argument(arguments, k);
+    &rest[..before_comma(rest)]
+}
+
+/// The arguments of a call from argument `k` on, by the cells of all arguments, with a comma mark between two. Null if
+/// the call has no argument `k`.
+pub fn from_argument(arguments: &[Cell], k: u32) -> &[Cell]
+    ensures { result.now ≡ from_argument arguments.now k }
+{
     let mut rest = arguments;
     for _before in 0..k {
         rest = behind_comma(rest);
     }
-    &rest[..before_comma(rest)]
+    rest
 }
 
 /// The function that the arguments of a call name, by the cells of all of them. None if no function has the name.
@@ -56,7 +65,7 @@ fn behind(cells: &[Cell], place: usize) -> &[Cell]
     if place < cells.len() {
         &cells[place + 1..]
     } else {
-        &[]
+        &cells[cells.len()..]
     }
 }
 

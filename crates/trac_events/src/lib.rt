@@ -4,13 +4,15 @@
 #![tactic(auto)]
 
 mod before;
+mod byte_search;
 mod call;
 mod change;
 mod place;
 mod source;
 
 pub use before::{Before, depth_follows};
-pub use call::{Named, argument, arguments_of, function_of};
+pub use byte_search::{LineEnd, Mark, NumberSign, Sought, count_before};
+pub use call::{Named, argument, arguments_of, from_argument, function_of};
 pub use change::{find_form, is_same, pointer_of, takes_part, touched_by};
 pub use place::{Place, Reading};
 pub use source::{TakenPart, ValueSource, values_come_from};

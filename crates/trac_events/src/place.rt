@@ -1,9 +1,10 @@
 //! Places in the input, and the strings that were read from it.
-ghost use Rattle.std.specs.Prelude.{◌≡◌};
+ghost use Rattle.std.specs.Prelude.{◌≡◌, ◌+◌, ◌-◌, ◌^◌, min};
 ghost use Rattle.trac_space.specs.Texts.{text_of_cells};
 ghost use Rattle.trac_events.specs.Places.{behind, behind_text, behind_layout, first_place};
 ghost use Rattle.trac_events.specs.Places.{one_more};
 
+use crate::byte_search::{ApartFromColumns, count_before};
 use trac_core::is_layout;
 use trac_space::{Cell, character_of};
 
@@ -45,10 +46,27 @@ impl Place {
         ensures { result ≡ behind_text self bytes.now }
     {
         let mut place = self;
-        for byte in bytes {
-            place = place.behind(*byte);
+        let mut done: usize = 0;
+        while done < bytes.len() {
+            let plain = count_before(&ApartFromColumns, &bytes[done..]);
+            place = place.in_columns(plain);
+            done += plain;
+            if done < bytes.len() {
+                place = place.behind(bytes[done]);
+                done += 1;
+            }
         }
         place
+    }
+
+    // The place behind characters that each take a column.
+    fn in_columns(self, count: usize) -> Place
+        ensures { result ≡ record self { column = min (self.column + count) (2 ^ 64 - 1) } }
+    {
+        Place {
+            line: self.line,
+            column: self.column.saturating_add(count as u64),
+        }
     }
 
     /// The place behind the characters of cells, if they stand from this place on.

@@ -117,9 +117,9 @@ marked-from forms first at now h located earlier =
         within = omega (arith, place.within, length-set forms k form);
         start_is = place.start_is ∙ sym (same_start (record (form_at forms k) { pointer = mark }) forms k now.number refl);
       };
-      no_comma_from = λ j less.
+      none_before = λ j less.
           let other = get_or-set_other forms k j form (record { name = []; body = []; pointer = 0 }) (λ e. absurd (omega (arith, e, less, order))) in
-          ap is_marked other ∙ h.no_comma_from j (omega (arith, less, before));
+          ap is_marked other ∙ h.none_before j (omega (arith, less, before));
     }
 
 -- the forms of the store then
@@ -141,8 +141,8 @@ unmarked-marks names (form ∷ forms) h few =
     go (is_among names form) (no-mark form.pointer small) more
   where
     go : (b : Bool) → is_marked form ≡ false → unmarked (with_marks names forms) ≡ without_all names forms → (if not (is_marked (marked_if b form)) then marked_if b form ∷ unmarked (with_marks names forms) else unmarked (with_marks names forms)) ≡ (if not b then form ∷ without_all names forms else without_all names forms)
-    go true no_comma_from more = more
-    go false no_comma_from more = rw no_comma_from (ap (λ fs. form ∷ fs) more)
+    go true none_before more = more
+    go false none_before more = rw none_before (ap (λ fs. form ∷ fs) more)
 
 -- some of the forms, in their order
 NoneNamed-filter : (stays : Form → Bool) (other : Text) (forms : List Form) → NoneNamed other forms → NoneNamed other (filter stays forms)

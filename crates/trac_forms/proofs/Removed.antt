@@ -11,7 +11,7 @@ none-marked s count last start h =
     let all : take (length forms) forms ≡ forms = take_all (length forms) forms (omega arith) in
     record {
       place = record { within = omega arith; start_is = sym (ap (λ fs. length (flat_forms fs)) all ∙ ap length h.forms.whole) };
-      no_comma_from = λ j less.
+      none_before = λ j less.
           let f = stands forms s.store j (start_of forms j) h.forms.whole less refl in
           no-mark (form_at forms j).pointer (omega (arith, f.end, h.forms.bounded, pointer-within forms j h.sound.forms));
     }

@@ -70,8 +70,8 @@ module _ {old now : Lists} {i a b from kept : ℕ} (h : IsSweptTo old now i a b 
         ap (λ k. drop k now.store) ends ∙ sym (drop-drop n from now.store) ∙ ap (drop n) h.behind ∙ drop-drop n from old.store ∙ ap (λ k. drop k old.store) (sym ends)
 
     pub swept-more : is_marked form ≡ false → IsSweptTo old now (i + 1) a b end (kept + 1)
-    swept-more no_comma_from =
-        let next : unmarked (take (i + 1) forms) ≡ unmarked (take i forms) ++ form ∷ [] = next-unmarked forms i within ∙ rw no_comma_from refl in
+    swept-more none_before =
+        let next : unmarked (take (i + 1) forms) ≡ unmarked (take i forms) ++ form ∷ [] = next-unmarked forms i within ∙ rw none_before refl in
         let size : b + ((from - b) + (end - from)) ≡ end = omega (arith, h.order, ends) in
         let first : b + (from - b) ≡ from = omega (arith, h.order) in
         let last : b + (from - b) + (end - from) ≡ end = omega (arith, h.order, ends) in
@@ -120,20 +120,20 @@ module _ {old now : Lists} {i a b from kept : ℕ} (h : IsSweptTo old now i a b 
         }
 
 -- forms without a mark all stay
-pub no_comma_from-taken : (forms : List Form) (k : ℕ) → ((j : ℕ) → j < k → is_marked (form_at forms j) ≡ false) → unmarked (take k forms) ≡ take k forms
-no_comma_from-taken [] zero no_comma_from = refl
-no_comma_from-taken [] (suc k) no_comma_from = refl
-no_comma_from-taken (form ∷ forms) zero no_comma_from = refl
-no_comma_from-taken (form ∷ forms) (suc k) no_comma_from =
-    let e = no_comma_from 0 (omega arith) in
-    rw e (ap (λ fs. form ∷ fs) (no_comma_from-taken forms k (λ j less. no_comma_from (suc j) (omega (arith, less)))))
+pub none-taken : (forms : List Form) (k : ℕ) → ((j : ℕ) → j < k → is_marked (form_at forms j) ≡ false) → unmarked (take k forms) ≡ take k forms
+none-taken [] zero none_before = refl
+none-taken [] (suc k) none_before = refl
+none-taken (form ∷ forms) zero none_before = refl
+none-taken (form ∷ forms) (suc k) none_before =
+    let e = none_before 0 (omega arith) in
+    rw e (ap (λ fs. form ∷ fs) (none-taken forms k (λ j less. none_before (suc j) (omega (arith, less)))))
 
 -- the first forms have none
 pub swept-first : (old : Lists) (k at : ℕ) → flat_forms (forms_in old.store) ≡ old.store → IsMarkedFrom (forms_in old.store) k at → IsSweptTo old old k at at at k
 swept-first old k at whole h =
     let forms = forms_in old.store in
     let none : at - at ≡ 0 = omega arith in
-    let stay = no_comma_from-taken forms k h.no_comma_from in
+    let stay = none-taken forms k h.none_before in
     let parts = sym whole ∙ ap flat_forms (sym (take-append-drop k forms)) ∙ flat_map-append flat_form (take k forms) (drop k forms) in
     let front : take at old.store ≡ flat_forms (take k forms) = ap (take at) parts ∙ take_at (flat_forms (take k forms)) (flat_forms (drop k forms)) at (sym h.place.start_is) in
     record {
@@ -154,7 +154,7 @@ module _ (forms : List Form) (k at : ℕ) (h : IsMarkedFrom forms k at) where
   stays =
       ap unmarked (sym (take-append-drop k forms))
       ∙ filter-append (λ form. not (is_marked form)) (take k forms) (drop k forms)
-      ∙ ap (λ fs. fs ++ unmarked (drop k forms)) (no_comma_from-taken forms k h.no_comma_from)
+      ∙ ap (λ fs. fs ++ unmarked (drop k forms)) (none-taken forms k h.none_before)
 
   pub first-stay : take k (unmarked forms) ≡ take k forms
   first-stay = ap (take k) stays ∙ take_at (take k forms) (unmarked (drop k forms)) k (length-take-le k forms h.place.within)

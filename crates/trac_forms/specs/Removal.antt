@@ -56,7 +56,7 @@ pub record IsFormed (s : Lists) (count last start : ℕ) : Type 0 where
 -- no form before form k is marked, and form k begins at `start`
 pub record IsMarkedFrom (forms : List Form) (k start : ℕ) : Type 0 where
   pub place : IsPlace forms k start
-  pub no_comma_from : (j : ℕ) → j < k → is_marked (form_at forms j) ≡ false
+  pub none_before : (j : ℕ) → j < k → is_marked (form_at forms j) ≡ false
 
 -- forms are being marked: `last` is the form used last, and no form before `from` is marked
 pub record AreMarking (space : Lists) (count : ℕ) (last from : Located) : Type 0 where

@@ -5,7 +5,6 @@ ghost use Rattle.std.specs.Prelude.{◌∷◌, [], length, map, slice_range, sli
 ghost use Rattle.std.specs.Prelude.{MatchOption};
 ghost use Rattle.std.specs.Bool.{OnTrue, OnFalse};
 ghost use Rattle.trac_space.specs.declared.cell.Cell.TheVariants.{Comma};
-ghost use Rattle.trac_space.specs.Cells.{NoComma};
 ghost use Rattle.trac_space.specs.Lists.{used as cells_used, reserved};
 ghost use Rattle.trac_space.specs.Texts.{flat_text, IsByte};
 ghost use Rattle.trac_forms.specs.Contents.{used, IsSound, form_place, form_at, pointer_at};
@@ -24,19 +23,12 @@ use trac_store::{Located, fill_items, heads_of};
 impl<'a> Work<'a> {
     /// Copies the form's body from its pointer on to the front of active, each gap k replaced by argument k:
     /// the k-th, from 1, of the texts between the comma marks of neutral from place `first` up to `end`, or
-    /// nothing if there is no such text. Gives how many characters these are. No comma mark stands in neutral
-    /// from place `no_comma_from` up to `end`. None, with nothing changed, if the copy doesn't fit.
+    /// nothing if there is no such text. Gives how many characters these are. None, with nothing changed, if the
+    /// copy doesn't fit.
     #[inline(always)]
-    pub fn load_filled(
-        &mut self,
-        form: FormId,
-        first: u32,
-        end: u32,
-        no_comma_from: u32,
-    ) -> Option<u32>
+    pub fn load_filled(&mut self, form: FormId, first: u32, end: u32) -> Option<u32>
         requires known { form_place form < length self.old.forms }
         requires arguments { AreParted self.old.neutral first end }
-        requires no_comma_from { NoComma (slice_range self.old.neutral no_comma_from end) }
         ensures loaded { let text = filled_body self.old (form_place form) first end in
             MatchOption result
             ((self.new ≡ self.old) × (self.old.room < used self.old + length text))
@@ -49,7 +41,7 @@ impl<'a> Work<'a> {
             from: first,
             to: end,
         };
-        fill_items(&mut self.space, items, texts, no_comma_from)
+        fill_items(&mut self.space, items, texts)
     }
 
     // The part of the store that a call of the form copies: its body from its pointer on.

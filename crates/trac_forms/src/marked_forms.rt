@@ -32,7 +32,7 @@ pub(crate) fn mark_all(
 ) -> Located
     requires formed { IsFormed space.old count last.number last.start }
     requires names { AreParted space.old.neutral names.from names.to }
-    requires no_comma_from { let forms = forms_in space.old.store in
+    requires none_before { let forms = forms_in space.old.store in
         IsMarkedFrom forms (length forms) (length space.old.store) }
     ensures marked { let texts = texts_between space.old.neutral names.from names.to in
         let forms = with_marks texts (forms_in space.old.store) in

@@ -1,5 +1,5 @@
 -- Parts of the neutral string as texts, and arguments cut at comma marks.
-use Rattle.trac_functions.proofs.Imports.{◌≡◌, ℕ, suc, ◌+◌, ◌-◌, ◌<◌, ◌≤◌, Bool, true, false, List, [], ◌∷◌, length, take, drop, slice_range, All, map, refl, sym, ap, ◌∙◌, subst, ⊎_elim, arith, get_or, cond, nat_le, cases_lt, length-map, get_or-drop, take-map}
+use Rattle.trac_functions.proofs.Imports.{◌≡◌, ℕ, suc, ◌+◌, ◌-◌, ◌<◌, ◌≤◌, Bool, true, false, List, [], ◌∷◌, length, take, drop, slice_range, All, map, refl, sym, ap, ◌∙◌, subst, ⊎_elim, arith, get_or, cond, nat_le, cases_lt, length-map, get_or-drop, drop-drop, take-map}
 use Rattle.trac_functions.proofs.Imports.{length-between, All-cons, All-take, All-drop, All-map, Text, argument, Cell, Byte, Call, Comma, Gap, Head, seen, is_call, is_comma, NoCall, NoComma, flat_text, text_of_cells, character_of, IsByte, Contents, IsStringCell, IsSound, IsTextPart, part_text}
 use Rattle.trac_functions.proofs.Imports.{before_comma, before_comma-within, found-comma, Arguments, in_first, texts_of, texts_from, texts, AreArguments}
 use Rattle.trac_functions.proofs.CellRanges.{drop-range, take-range}
@@ -137,12 +137,12 @@ before_comma-none (cell ∷ cells) = go (is_comma cell) refl (before_comma-none 
     go false e rest = All-cons (λ cell. is_comma cell ≡ false) cell (take (before_comma cells) cells) e rest
 
 -- a cell of neutral that is no mark is a character
-byte-no_comma_from : (cell : Cell) → IsStringCell cell → is_call cell ≡ false → is_comma cell ≡ false → IsByte cell
-byte-no_comma_from (Byte c) s call comma = tt
-byte-no_comma_from (Call mode k) s call comma = absurd cc
-byte-no_comma_from Comma s call comma = absurd cc
-byte-no_comma_from (Gap k) s call comma = s
-byte-no_comma_from (Head k) s call comma = s
+byte-no_mark : (cell : Cell) → IsStringCell cell → is_call cell ≡ false → is_comma cell ≡ false → IsByte cell
+byte-no_mark (Byte c) s call comma = tt
+byte-no_mark (Call mode k) s call comma = absurd cc
+byte-no_mark Comma s call comma = absurd cc
+byte-no_mark (Gap k) s call comma = s
+byte-no_mark (Head k) s call comma = s
 
 string-range : (w : Contents) → IsSound w → (a b : ℕ) → All IsStringCell (slice_range w.neutral a b)
 string-range w sound a b = All-take IsStringCell (b - a) (drop a w.neutral) (All-drop IsStringCell a w.neutral sound.neutral)
@@ -166,11 +166,11 @@ taken-part w a are le =
     record {
       order = omega arith;
       within = omega arith;
-      bytes = λ k d within. byte-no_comma_from (get_or part k d) (strings k d within) (calls k d within) (commas k d within);
+      bytes = λ k d within. byte-no_mark (get_or part k d) (strings k d within) (calls k d within) (commas k d within);
     }
 
-pub taken-left : (w : Contents) (a b : Arguments) → AreArguments w a → a.from ≤ a.end → b.from ≡ a.from + before_comma (slice_range w.neutral a.from a.end) + 1 → b.end ≡ a.end → b.no_comma_from ≡ a.no_comma_from → AreArguments w b
-taken-left w a b are le from_is end_is plain_is =
+pub taken-left : (w : Contents) (a b : Arguments) → AreArguments w a → a.from ≤ a.end → b.from ≡ a.from + before_comma (slice_range w.neutral a.from a.end) + 1 → b.end ≡ a.end → AreArguments w b
+taken-left w a b are le from_is end_is =
     let here = slice_range w.neutral a.from a.end in
     let n = before_comma here in
     let inside = are.within in
@@ -186,7 +186,6 @@ taken-left w a b are le from_is end_is plain_is =
           subst (λ k. NoCall (slice_range w.neutral k a.end)) e (no_call-later w.neutral a.from (n + 1) a.end (omega arith) are.no_call))
           (λ last. let none : a.end - (a.from + n + 1) ≡ 0 = omega arith in rw none (λ k d within. absurd (omega arith)))
           (cases_lt (a.from + n) a.end));
-      no_comma = rw (plain_is, end_is) are.no_comma;
     }
 
 -- where no comma mark stands, all is before the first
@@ -195,14 +194,14 @@ before_comma-all [] h = refl
 before_comma-all (cell ∷ cells) h = rw (h 0 (Byte 0) (omega arith), before_comma-all cells (λ k d within. h (suc k) d (omega arith))) refl
 
 -- the last argument, which begins where no comma mark follows, goes up to the end
-pub last-long : (w : Contents) (a : Arguments) → AreArguments w a → a.from ≤ a.end → a.no_comma_from ≤ a.from → a.end ≡ a.from + before_comma (slice_range w.neutral a.from a.end)
-last-long w a are le late =
-    let n = a.from - a.no_comma_from in
-    let here : a.no_comma_from + n ≡ a.from = omega arith in
-    let rest = subst (λ k. NoComma (slice_range w.neutral k a.end)) here
-    (subst NoComma (drop-range w.neutral a.no_comma_from n a.end (omega arith)) (All-drop (λ cell. is_comma cell ≡ false) n (slice_range w.neutral a.no_comma_from a.end) are.no_comma)) in
+pub last-long : (w : Contents) (a : Arguments) → AreArguments w a → a.from ≤ a.end → (place : ℕ) → place ≤ a.from → NoComma (drop place w.neutral) → a.end ≡ a.from + before_comma (slice_range w.neutral a.from a.end)
+last-long w a are le place late none =
+    let No : Cell → Type 0 = λ cell. is_comma cell ≡ false in
+    let n = a.from - place in
+    let here : place + n ≡ a.from = omega (arith, late) in
+    let behind = subst (λ k. NoComma (drop k w.neutral)) here (subst NoComma (drop-drop n place w.neutral) (All-drop No n (drop place w.neutral) none)) in
     let long = length-between w.neutral a.from a.end are.within in
-    let whole = before_comma-all (slice_range w.neutral a.from a.end) rest in
+    let whole = before_comma-all (slice_range w.neutral a.from a.end) (All-take No (a.end - a.from) (drop a.from w.neutral) behind) in
     omega arith
 
 -- a part of no cells is a null text

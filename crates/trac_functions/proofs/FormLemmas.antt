@@ -38,7 +38,7 @@ names-none before forms k past = ap (names before) (drop_all k forms past)
 
 pub arguments-kept : (w v : Contents) (a : Arguments) → AreArguments w a → IsSound v → v.neutral ≡ w.neutral → AreArguments v a
 arguments-kept w v a are sound same =
-    record { sound = sound; order = are.order; within = rw same are.within; no_call = rw same are.no_call; no_comma = rw same are.no_comma }
+    record { sound = sound; order = are.order; within = rw same are.within; no_call = rw same are.no_call }
 
 first_of_some : (texts : List Text) → 0 < length texts → texts ≡ argument texts 0 ∷ drop 1 texts
 first_of_some [] some = absurd (omega arith)
@@ -67,10 +67,10 @@ parts-left : (w : Contents) (fuel : ℕ) (a : Arguments) → AreArguments w a �
 parts-left w zero a are few = parts-past w a (omega (arith, few))
 parts-left w (suc fuel) a are few = ⊎_elim (parts-past w a) (λ le.
     let n = before_comma (slice_range w.neutral a.from a.end) in
-    let b : Arguments = record { from = a.from + n + 1; end = a.end; no_comma_from = a.no_comma_from; scanned = a.scanned } in
+    let b : Arguments = record { from = a.from + n + 1; end = a.end; scanned = a.scanned } in
     let first = parts-first w.neutral a.from a.end n le are.within refl in
     let rest = taken-rest w a are le in
-    let later = parts-left w fuel b (taken-left w a b are le refl refl refl) (omega (arith, few)) in (
+    let later = parts-left w fuel b (taken-left w a b are le refl refl) (omega (arith, few)) in (
       rw first (All-cons (Part w) (a.from, a.from + n) (parts_between w.neutral b.from b.end) (taken-part w a are le) later.0),
       ap (part_texts w.neutral) first
           ∙ ap (λ text. text ∷ texts_between w.neutral b.from b.end) (taken-text w a are le)

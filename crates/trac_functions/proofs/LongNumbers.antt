@@ -51,9 +51,9 @@ padded-none (suc k) = ap (λ (t : Text). t ++ 48 ∷ []) (padded-none k) ∙ go 
 
 padded-short : (k l : ℕ) → l < 10 → padded (suc k) l ≡ padded_text (suc k) (decimal l)
 padded-short k l few =
-    let no_comma_from : 0 * 10 + l ≡ l = omega arith in
-    let none : l / 10 ≡ 0 = ap (λ n. n / 10) (sym no_comma_from) ∙ div-mul-add 0 10 l few in
-    let same : l % 10 ≡ l = ap (λ n. n % 10) (sym no_comma_from) ∙ mod-mul-add 0 10 l few in
+    let whole : 0 * 10 + l ≡ l = omega arith in
+    let none : l / 10 ≡ 0 = ap (λ n. n / 10) (sym whole) ∙ div-mul-add 0 10 l few in
+    let same : l % 10 ≡ l = ap (λ n. n % 10) (sym whole) ∙ mod-mul-add 0 10 l few in
     ap (λ n. padded k n ++ (48 + l % 10) ∷ []) none ∙ ap (λ n. padded k 0 ++ (48 + n) ∷ []) same ∙ ap (λ t. t ++ (48 + l) ∷ []) (padded-none k)
     ∙ go ∙ ap (padded_text (suc k)) (sym (decimal_digit l few))
   where

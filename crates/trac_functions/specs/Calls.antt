@@ -10,7 +10,7 @@ use Rattle.trac_language.specs.Form.{Form}
 use Rattle.trac_language.specs.State.{Input}
 use Rattle.trac_language.specs.Meaning.{World, Gives, meaning_of, built}
 use Rattle.trac_space.specs.declared.cell.Cell.{Cell}
-use Rattle.trac_space.specs.Cells.{NoCall, NoComma}
+use Rattle.trac_space.specs.Cells.{NoCall}
 use Rattle.trac_space.specs.Texts.{flat_text}
 use Rattle.trac_forms.specs.Contents.{Contents, used, IsSound}
 use Rattle.trac_functions.specs.declared.arguments.Arguments.{Arguments}
@@ -35,14 +35,12 @@ abbrev pub texts_from : List Cell → ℕ → ℕ → List Text
 texts_from neutral from end =
     if nat_le from end then texts_of (slice_range neutral from end) else []
 
--- the arguments that are left are within the neutral string, no call mark stands among them, and no
--- comma mark from `arguments.no_comma_from` on
+-- the arguments that are left are within the neutral string, and no call mark stands among them
 pub record AreArguments (w : Contents) (arguments : Arguments) : Type 0 where
   pub sound : IsSound w
   pub order : arguments.from ≤ arguments.end + 1
   pub within : arguments.end ≤ length w.neutral
   pub no_call : NoCall (slice_range w.neutral arguments.from arguments.end)
-  pub no_comma : NoComma (slice_range w.neutral arguments.no_comma_from arguments.end)
 
 -- the room is as it was, and what is in it is sound
 pub record KeepsRoom (old new : Contents) : Type 0 where

@@ -156,8 +156,7 @@ pub fn call_form(work: &mut Work, mut arguments: Arguments) -> CallResult
     let Some(form) = next_form(work, &mut arguments) else {
         return CallResult::AtEnd;
     };
-    let Some(size) = work.load_filled(form, arguments.from, arguments.end, arguments.no_comma_from)
-    else {
+    let Some(size) = work.load_filled(form, arguments.from, arguments.end) else {
         return CallResult::Full;
     };
     if scanned {

@@ -66,8 +66,8 @@ abbrev Plain : Text → Type 0
 Plain [] = Unit {0}
 Plain (c ∷ t) = (c ≢ 39) × Plain t
 
-no_comma_from : (t : Text) → All (λ c. c ≢ 39) t → Plain t
-no_comma_from t h = recursion_from_All (λ c. c ≢ 39) t h
+plain-text : (t : Text) → All (λ c. c ≢ 39) t → Plain t
+plain-text t h = recursion_from_All (λ c. c ≢ 39) t h
 
 plain_append : (a b : Text) → Plain a → Plain b → Plain (a ++ b)
 plain_append [] b p q = q
@@ -248,7 +248,7 @@ module _ (t : Text) (room : ℕ) (le : 16 + length t ≤ room) where
 -- all 25 steps, of which the ninth has the greatest need
 pub quoted_law : Quoted
 quoted_law t room allowance balanced plain le enough =
-    let p = no_comma_from t plain in
+    let p = plain-text t plain in
     let m = allowance - 25 in
     let all : allowance ≡ more 25 m = let e = more_is 25 m in omega arith in
     let r = prints_read t room le m balanced in

@@ -1,6 +1,6 @@
 -- Characters that are put once more at a place behind, one after the other.
 use Rattle.trac_space.proofs.Imports.{◌≡◌, ◌↔◌, ℕ, ◌+◌, ◌<◌, ◌≤◌, true, false, IsTrue, nat_eq, All, List, [], ◌∷◌, ◌++◌, length, take, drop, map, get_or, slice_range, sum_by, refl, sym, ◌-◌, ap, ◌∙◌, subst, ⊎_elim, arith, rules, places, same_lists, length-drop, length-take-le, get_or-take}
-use Rattle.trac_space.proofs.Imports.{get_or-map, get_or-drop, take_more, drop_more, suc, take-map, drop-map, drop-drop, take-add, cases_lt, All-append, All-push, All-map, All-cons, All-head, All-tail, sum_by-cons, Cell, Byte, Call, Comma, seen, IsNoCall, IsByte, is_byte_cell, byte_cell_at}
+use Rattle.trac_space.proofs.Imports.{get_or-map, get_or-drop, take_more, drop_more, suc, take-map, drop-map, drop-drop, take-add, cases_lt, All-append, All-push, All-map, All-cons, All-head, All-tail, sum_by-cons, Cell, Byte, Call, Comma, seen, IsNoCall, NoCall, IsByte, is_byte_cell, byte_cell_at}
 use Rattle.trac_space.proofs.Imports.{kind_number}
 use Rattle.trac_space.proofs.Blocks.{AreAll}
 
@@ -57,6 +57,9 @@ tested-seen cell = refl
 byte-no_call : (cell : Cell) → IsByte cell → IsNoCall cell
 byte-no_call (Call mode distance) h = absurd h
 byte-no_call cell h = refl
+
+pub no_call-characters : (cells : List Cell) → All IsByte cells → NoCall cells
+no_call-characters cells bytes = λ k d less. byte-no_call (get_or cells k d) (bytes k d less)
 
 -- n characters of the block from a on are a part of the store
 module _ (cells : List Cell) (store a n : ℕ) (within : a + n ≤ store) where

@@ -45,10 +45,10 @@ parts-meet cells a b c order up within = same_lists _ _ (search (rules, places))
 
 module _ (given : List Cell) where
   -- characters stand for themselves
-  filled-no_comma_from : (cells : List Cell) → All IsByte cells → filled given cells ≡ cells
-  filled-no_comma_from [] h = refl
-  filled-no_comma_from (Byte c ∷ cells) h = ap (λ more. Byte c ∷ more) (filled-no_comma_from cells (All-tail IsByte (Byte c) cells h))
-  filled-no_comma_from (cell ∷ cells) h = absurd (All-head IsByte cell cells h)
+  filled-characters : (cells : List Cell) → All IsByte cells → filled given cells ≡ cells
+  filled-characters [] h = refl
+  filled-characters (Byte c ∷ cells) h = ap (λ more. Byte c ∷ more) (filled-characters cells (All-tail IsByte (Byte c) cells h))
+  filled-characters (cell ∷ cells) h = absurd (All-head IsByte cell cells h)
 
   filled-append : (cells more : List Cell) → filled given (cells ++ more) ≡ filled given cells ++ filled given more
   filled-append [] more = refl
@@ -194,7 +194,7 @@ module _ {t : Task} where
           behind = behind;
           front = copied-low now new start lower 8 apart reach is t.low room;
         })
-        (filled-no_comma_from t.given (slice_range t.old (at - r) at) (subst (All IsByte) source bytes))
+        (filled-characters t.given (slice_range t.old (at - r) at) (subst (All IsByte) source bytes))
 
     module _ (on : ℕ) (next : on + 1 ≡ at) (order : t.from ≤ on) where
       last-cell : filled t.given (slice_range t.old on at) ≡ filling t.given (get_or t.old on Comma)

@@ -1,7 +1,9 @@
 -- Characters that are moved to a place before, one after the other, and become what a table says.
-use Rattle.trac_space.proofs.Imports.{◌≡◌, ℕ, ◌+◌, ◌<◌, ◌≤◌, Bool, true, false, All, List, [], ◌∷◌, length, take, drop, map, get_or, refl, sym, ap, ◌∙◌, arith, subst, ◌==◌, if◌then◌else◌, places, length-drop, length-map, length-take-le, get_or-drop, get_or-take, get_or-map, take_more, take-take}
-use Rattle.trac_space.proofs.Imports.{take-map, drop-append-le, drop_all, All-nil, All-push, All-map, elements, Cell, Byte, Comma, seen, is_comma, IsNoCall, NoCall, NoComma, IsByte, character_of, number_in, IsInRun, turned_by, turned, paste}
+use Rattle.trac_space.proofs.Imports.{◌≡◌, ℕ, ◌+◌, ◌<◌, ◌≤◌, Bool, true, false, All, List, [], ◌∷◌, length, take, drop, map, get_or, refl, sym, ap, ◌∙◌, arith, subst, ◌==◌, if◌then◌else◌, places, length-drop, length-map, get_or-drop, get_or-take, get_or-map, take_more, take-take}
+use Rattle.trac_space.proofs.Imports.{take-map, All-push, All-map, elements, Cell, Byte, Comma, seen, IsNoCall, NoCall, IsByte, character_of, number_in, IsInRun, turned_by, turned, paste}
+use Rattle.trac_space.specs.Tags.{holds_comma, NoCommaFrom}
 use Rattle.trac_space.proofs.Characters.{tested-seen}
+use Rattle.trac_space.proofs.CommaPlaces.{no_comma-append, no_comma-one}
 
 -- a cell of a part that is all characters is one
 pub byte-at : (was : List Cell) (start k most : ℕ) (d : Cell) → k < most → start + most ≤ length was → All IsByte (take most (drop start was)) → IsByte (get_or was (start + k) d)
@@ -31,18 +33,10 @@ module _ (table : List ℕ) (was : List Cell) (start k : ℕ) (d : Cell) (within
   turned-at = get_or-map (turned_by table) (drop start was) k d (turned_by table d) part_long ∙ ap (turned_by table) (get_or-drop start was k d)
 
   -- a cell more that is no comma mark
-  pub no_comma_from-more : (last : ℕ) → last ≤ k → is_comma (turned_by table (get_or was (start + k) d)) ≡ false → NoComma (drop last (take k (turned table (drop start was)))) → NoComma (drop last (take (k + 1) (turned table (drop start was))))
-  no_comma_from-more last order none no_comma_from =
+  pub no_comma-more : (last : ℕ) → holds_comma (turned_by table (get_or was (start + k) d)) ≡ false → NoCommaFrom last (take k (turned table (drop start was))) → NoCommaFrom last (take (k + 1) (turned table (drop start was)))
+  no_comma-more last other none =
       let cells = turned table (drop start was) in
-      let long = turned_long in
-      let size : last ≤ length (take k cells) = omega (arith, length-take-le k cells (omega (arith, long))) in
-      rw (take_more cells k (turned_by table d) long, drop-append-le last (take k cells) (get_or cells k (turned_by table d) ∷ []) size)
-      (All-push (λ cell. is_comma cell ≡ false) _ _ no_comma_from (ap is_comma turned-at ∙ none))
-
--- no comma mark stands behind the last cell
-pub no_comma_from-none : (cells : List Cell) (k : ℕ) → k ≤ length cells → NoComma (drop k (take k cells))
-no_comma_from-none cells k within =
-    rw (drop_all k (take k cells) (omega (arith, length-take-le k cells within))) (All-nil (λ cell. is_comma cell ≡ false))
+      rw (take_more cells k (turned_by table d) turned_long) (no_comma-append (take k cells) last none _ (no_comma-one _ (ap holds_comma turned-at ∙ other)))
 
 -- a character stays, or becomes a comma mark
 pub turned-byte : (table : List ℕ) (cell : Cell) → number_in table cell ≡ 0 → turned_by table cell ≡ Byte (character_of cell)
@@ -52,15 +46,15 @@ pub turned-one : (table : List ℕ) (cell : Cell) → number_in table cell ≡ 1
 turned-one table cell one = rw one refl
 
 -- what becomes of a cell in a run is seen as it is, and is no call mark
-turned-no_comma_from : (table : List ℕ) (cell : Cell) → (seen (turned_by table cell) ≡ turned_by table cell) × IsNoCall (turned_by table cell)
-turned-no_comma_from table cell = go (number_in table cell == 0) (character_of cell)
+turned-plain : (table : List ℕ) (cell : Cell) → (seen (turned_by table cell) ≡ turned_by table cell) × IsNoCall (turned_by table cell)
+turned-plain table cell = go (number_in table cell == 0) (character_of cell)
   where
     go : (stays : Bool) (c : ℕ) → (seen (if stays then Byte c else Comma) ≡ (if stays then Byte c else Comma)) × IsNoCall (if stays then Byte c else Comma)
     go true c = (refl, refl)
     go false c = (refl, refl)
 
 pub turned-calls : (table : List ℕ) (cells : List Cell) → NoCall (turned table cells)
-turned-calls table cells = All-map IsNoCall (turned_by table) cells (λ k d less. (turned-no_comma_from table (get_or cells k d)).1)
+turned-calls table cells = All-map IsNoCall (turned_by table) cells (λ k d less. (turned-plain table (get_or cells k d)).1)
 
 -- a cell has the character that it is seen with
 pub character-seen : (cell : Cell) → character_of (seen cell) ≡ character_of cell
@@ -73,7 +67,7 @@ turned-seen table (cell ∷ cells) = rw (character-seen cell, turned-seen table 
 
 seen-turned : (table : List ℕ) (cells : List Cell) → map seen (turned table cells) ≡ turned table cells
 seen-turned table [] = refl
-seen-turned table (cell ∷ cells) = rw ((turned-no_comma_from table cell).0, seen-turned table cells) refl
+seen-turned table (cell ∷ cells) = rw ((turned-plain table cell).0, seen-turned table cells) refl
 
 module _ (right : List Cell) (a n : ℕ) (within : n ≤ a) where
   -- the first cells of active, as they stand in the block
@@ -98,9 +92,6 @@ module _ (right : List Cell) (a n : ℕ) (within : n ≤ a) where
 
   pub front-turned : (table : List ℕ) → map seen (take n (turned table right)) ≡ turned table (take n (take a (map seen right)))
   front-turned table = ap (map seen) (front-turns table) ∙ seen-turned table (take n (take a (map seen right)))
-
-  pub front-no_comma_from : (table : List ℕ) (last : ℕ) → NoComma (drop last (take n (turned table right))) → NoComma (drop last (turned table (take n (take a (map seen right)))))
-  front-no_comma_from table last h = rw (front-turns table) at h
 
 -- the table has one number for the character behind a run, as it stands in the block and as it is seen
 pub front-next : (right : List Cell) (a n : ℕ) → n < a → a ≤ length right → (table : List ℕ) → number_in table (get_or right n (Byte 0)) ≡ number_in table (get_or (take a (map seen right)) n (Byte 0))

@@ -1,8 +1,6 @@
 -- Parts between comma marks, as contracts see them.
-use Rattle.std.proofs.lemmas.List.{drop-take}
-use Rattle.std.proofs.lemmas.List.Elements.{All-drop}
-use Rattle.trac_space.proofs.Imports.{◌≡◌, ℕ, suc, false, ◌+◌, ◌-◌, ◌<◌, ◌≤◌, All, List, [], ◌∷◌, ◌++◌, length, take, drop, map, get_or, slice_range, refl, sym, ap, ◌∙◌, arith, subst, ⊎_elim}
-use Rattle.trac_space.proofs.Imports.{take-map, drop-map, map-append, length-map, All-head, All-tail, All-cons, All-nil, Cell, Byte, Call, Comma, Gap, Head, seen, is_comma, cases_lt, drop-drop, NoComma, HaveCommas, parts_at, numbered_part, part_between, filling, filled}
+use Rattle.trac_space.proofs.Imports.{◌≡◌, ℕ, suc, ◌+◌, ◌-◌, All, List, [], ◌∷◌, ◌++◌, length, take, drop, map, get_or, slice_range, refl, sym, ap, ◌∙◌, arith, subst}
+use Rattle.trac_space.proofs.Imports.{take-map, drop-map, map-append, length-map, All-head, All-tail, All-cons, All-nil, Cell, Byte, Call, Comma, Gap, Head, seen, is_comma, HaveCommas, parts_at, numbered_part, part_between, filling, filled}
 use Rattle.std.proofs.Math.ListN.{get_or-map as get_or-map-same}
 use Rattle.trac_space.specs.Tags.{has_tag, untagged, tag_of}
 use Rattle.trac_space.proofs.TaggedCommas.{Takes}
@@ -25,17 +23,17 @@ parts-seen from at [] = refl
 parts-seen from at (cell ∷ cells) = rw (comma-seen cell, parts-seen (at + 1) (at + 1) cells, parts-seen from (at + 1) cells) refl
 
 -- no numbers lie over cells, if none lies over them as they are seen
-no_comma_from-one : (cell : Cell) → untagged (seen cell) ≡ seen cell → untagged cell ≡ cell
-no_comma_from-one (Gap k) is = absurd cc
-no_comma_from-one (Head k) is = absurd cc
-no_comma_from-one (Byte b) is = refl
-no_comma_from-one (Call mode k) is = refl
-no_comma_from-one Comma is = refl
+tagless-one : (cell : Cell) → untagged (seen cell) ≡ seen cell → untagged cell ≡ cell
+tagless-one (Gap k) is = absurd cc
+tagless-one (Head k) is = absurd cc
+tagless-one (Byte b) is = refl
+tagless-one (Call mode k) is = refl
+tagless-one Comma is = refl
 
-no_comma_from-seen : (cells : List Cell) → map untagged (map seen cells) ≡ map seen cells → map untagged cells ≡ cells
-no_comma_from-seen [] is = refl
-no_comma_from-seen (cell ∷ cells) is =
-    rw (no_comma_from-one cell (ap (λ l. get_or l 0 Comma) is), no_comma_from-seen cells (ap (drop 1) is)) refl
+tagless-from_seen : (cells : List Cell) → map untagged (map seen cells) ≡ map seen cells → map untagged cells ≡ cells
+tagless-from_seen [] is = refl
+tagless-from_seen (cell ∷ cells) is =
+    rw (tagless-one cell (ap (λ l. get_or l 0 Comma) is), tagless-from_seen cells (ap (drop 1) is)) refl
 
 -- the places of comma marks lie over cells, if they lie over the cells as these are seen
 pub commas-from-seen : (cells part : List Cell) (count : ℕ) → map seen cells ≡ part → HaveCommas part count → HaveCommas cells count
@@ -45,7 +43,7 @@ commas-from-seen cells part count shown have =
     let rest : map seen (drop count cells) ≡ drop count part = sym (drop-map seen count cells) ∙ ap (drop count) shown in
     record {
       within = omega (arith, have.within, ap length shown, length-map cells seen);
-      others = no_comma_from-seen (drop count cells) (ap (map untagged) rest ∙ have.others ∙ sym rest);
+      others = tagless-from_seen (drop count cells) (ap (map untagged) rest ∙ have.others ∙ sym rest);
       all = ap length (sym parts) ∙ have.all;
       tagged = λ k less.
           let read : has_tag (get_or part k Comma) ≡ has_tag (get_or cells k Comma) = ap (λ l. has_tag (get_or l k Comma)) (sym shown) ∙ ap has_tag (get_or-map-same seen cells k Comma) ∙ number-seen (get_or cells k Comma) in
@@ -99,38 +97,3 @@ filled-seen given (cell ∷ cells) =
     map-append seen (filling given cell) (filled given cells)
     ∙ ap (λ more. more ++ map seen (filled given cells)) (filling-seen given cell)
     ∙ ap (λ more. filling (map seen given) (seen cell) ++ more) (filled-seen given cells)
-
-no_comma_from-from-seen : (cells : List Cell) → NoComma (map seen cells) → NoComma cells
-no_comma_from-from-seen [] none = none
-no_comma_from-from-seen (cell ∷ cells) none =
-    let No : Cell → Type 0 = λ cell. is_comma cell ≡ false in
-    All-cons No cell cells (sym (comma-seen cell) ∙ All-head No (seen cell) (map seen cells) none) (no_comma_from-from-seen cells (All-tail No (seen cell) (map seen cells) none))
-
--- the last cells of a part
-last-cells : (cells : List Cell) (from end n m : ℕ) → from + n + m ≡ end → drop n (slice_range cells from end) ≡ take m (drop (from + n) cells)
-last-cells cells from end n m whole =
-    let size : end - from ≡ n + m = omega (arith, whole) in
-    ap (λ k. drop n (take k (drop from cells))) size ∙ drop-take n m (drop from cells) ∙ ap (take m) (drop-drop n from cells)
-
--- no comma mark stands among the last cells of a part, if none stands from an earlier place on
-no_comma_from-behind : (cells : List Cell) (first end no_comma_from n : ℕ) → first + n ≤ end → no_comma_from ≤ first + n → NoComma (slice_range (map seen cells) no_comma_from end) → NoComma (drop n (slice_range cells first end))
-no_comma_from-behind cells first end no_comma_from n within before none =
-    let m = end - (first + n) in
-    let k = first + n - no_comma_from in
-    let place : no_comma_from + k ≡ first + n = omega (arith, before) in
-    let shown : slice_range (map seen cells) no_comma_from end ≡ map seen (slice_range cells no_comma_from end) = simp (take-map, drop-map) refl in
-    let all = no_comma_from-from-seen (slice_range cells no_comma_from end) (subst NoComma shown none) in
-    let last = All-drop (λ cell. is_comma cell ≡ false) k (slice_range cells no_comma_from end) all in
-    let same : drop k (slice_range cells no_comma_from end) ≡ drop n (slice_range cells first end) =
-    last-cells cells no_comma_from end k m (omega (arith, within, before)) ∙ ap (λ i. take m (drop i cells)) place ∙ sym (last-cells cells first end n m (omega (arith, within))) in
-    subst NoComma same last
-
--- the same, where there may be no last cells
-pub no_comma_from-last : (cells : List Cell) (first end no_comma_from n : ℕ) → first + n ≤ end → (first + n < no_comma_from → end ≤ first + n) → NoComma (slice_range (map seen cells) no_comma_from end) → NoComma (drop n (slice_range cells first end))
-no_comma_from-last cells first end no_comma_from n within at none =
-    ⊎_elim
-    (λ less.
-    let e : first + n + 0 ≡ end = omega (arith, within, at less) in
-    subst NoComma (sym (last-cells cells first end n 0 e)) (All-nil (λ cell. is_comma cell ≡ false)))
-    (λ past. no_comma_from-behind cells first end no_comma_from n within past none)
-    (cases_lt (first + n) no_comma_from)

@@ -118,19 +118,19 @@ module _ (was now : List Cell) (at count : ℕ) (h : TaggedSoFar was now at coun
       }
 
 -- cells without comma marks are one part
-parts-no_comma_from : (from at : ℕ) (cells : List Cell) → NoComma cells → parts_at from at cells ≡ (from, at + length cells) ∷ []
-parts-no_comma_from from at [] none = ap (λ n. (from, n) ∷ []) (omega arith)
-parts-no_comma_from from at (cell ∷ cells) none =
+parts-no_comma : (from at : ℕ) (cells : List Cell) → NoComma cells → parts_at from at cells ≡ (from, at + length cells) ∷ []
+parts-no_comma from at [] none = ap (λ n. (from, n) ∷ []) (omega arith)
+parts-no_comma from at (cell ∷ cells) none =
     ap (λ b. cond b ((from, at) ∷ parts_at (at + 1) (at + 1) cells) (parts_at from (at + 1) cells)) (All-head (λ cell. is_comma cell ≡ false) cell cells none)
-    ∙ parts-no_comma_from from (at + 1) cells (All-tail (λ cell. is_comma cell ≡ false) cell cells none)
+    ∙ parts-no_comma from (at + 1) cells (All-tail (λ cell. is_comma cell ≡ false) cell cells none)
     ∙ ap (λ n. (from, n) ∷ []) (omega arith)
 
 -- all are, since none follows
 pub tagged-commas : (was now : List Cell) (at count : ℕ) → TaggedSoFar was now at count → NoComma (drop at was) → All Takes was → HaveCommas now count
-tagged-commas was now at count h no_comma_from takes =
+tagged-commas was now at count h none takes =
     let long : length now ≡ length was = sym (length-map now untagged) ∙ ap length h.untagged_is in
     let end = at + length (drop at was) in
-    let parts : parts_at 0 0 (map untagged now) ≡ h.done ++ (h.from, end) ∷ [] = ap (parts_at 0 0) h.untagged_is ∙ h.split ∙ ap (λ l. h.done ++ l) (parts-no_comma_from h.from at (drop at was) no_comma_from) in
+    let parts : parts_at 0 0 (map untagged now) ≡ h.done ++ (h.from, end) ∷ [] = ap (parts_at 0 0) h.untagged_is ∙ h.split ∙ ap (λ l. h.done ++ l) (parts-no_comma h.from at (drop at was) none) in
     record {
       within = omega (arith, h.few, h.within, long);
       others = ap (map untagged) h.behind ∙ sym (drop-map untagged count was) ∙ ap (drop count) (takes-all was takes) ∙ sym h.behind;

@@ -1,7 +1,9 @@
 -- Numbers that lie over the cells of a text for a while, and the cells under them.
-use Rattle.std.specs.Prelude.{◌≡◌, ℕ, ◌/◌, ◌%◌, ◌++◌, Bool, true, false, List, take, drop, map, slice_range}
+use Rattle.std.specs.Prelude.{◌≡◌, ℕ, ◌/◌, ◌%◌, ◌++◌, ◌≤◌, Bool, true, false, List, take, drop, map}
+use Rattle.std.specs.Prelude.{slice_index_or, slice_range}
 use Rattle.trac_space.specs.declared.cell.Cell.{Cell}
 use Rattle.trac_space.specs.declared.cell.Cell.TheVariants.{Byte, Call, Comma, Gap, Head}
+use Rattle.trac_space.specs.Cells.{is_comma}
 
 -- the cell can take a number: it is a character or a comma mark
 abbrev pub takes_tag : Cell → Bool
@@ -34,6 +36,15 @@ has_tag (Call _ _) = false
 has_tag Comma = false
 has_tag (Gap _) = true
 has_tag (Head _) = true
+
+-- the cell is a comma mark, with or without a tag
+abbrev pub holds_comma : Cell → Bool
+holds_comma cell = is_comma (untagged cell)
+
+-- from the place on no cell is a comma mark, with or without a tag
+abbrev pub NoCommaFrom : ℕ → List Cell → Type 0
+NoCommaFrom place cells =
+    (k : ℕ) → place ≤ k → holds_comma (slice_index_or cells k (Byte 0)) ≡ false
 
 -- numbers lie over the cells from a up to b, and nothing else has changed
 abbrev pub HaveTags : List Cell → List Cell → ℕ → ℕ → Type 0

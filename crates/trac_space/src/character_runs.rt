@@ -2,19 +2,19 @@
 ghost use Rattle.std.specs.Prelude.{◌≡◌, ◌+◌, ◌-◌, ◌≤◌, ◌<◌, All, IsTrue, drop, false, length};
 ghost use Rattle.std.specs.Prelude.{take, ◌==◌, slice_index_or};
 ghost use Rattle.trac_space.specs.declared.cell.Cell.TheVariants.{Byte};
-ghost use Rattle.trac_space.specs.Cells.{NoComma};
 ghost use Rattle.trac_space.specs.Runs.{IsInRun, number_in, turned, with_cells_at};
+ghost use Rattle.trac_space.specs.Tags.{NoCommaFrom};
 ghost use Rattle.trac_space.specs.Texts.{IsByte, byte_cell_at};
 
 use crate::cell::{Cell, are_characters, are_four, are_two, byte_in, is_character};
 use crate::copies::BLOCK;
 
-/// A run of characters, each kept or turned into a comma mark: how many they are, and from which of them on
-/// none is a comma mark.
+// A run of characters, each kept or turned into a comma mark: how many they are, and from which of them on
+// none is a comma mark.
 #[derive(Clone, Copy)]
-pub struct CharacterRun {
-    pub len: u32,
-    pub no_comma_from: u32,
+pub(crate) struct CharacterRun {
+    pub(crate) len: u32,
+    pub(crate) no_comma_from: u32,
 }
 
 // Copies characters to a lower place, at most `most`. `table` has a number for each byte: 0 keeps the
@@ -37,8 +37,8 @@ pub(crate) fn translate_run(
     ensures ends { result.len < most →
         1 < number_in table.now (slice_index_or cells.old (start + result.len) (Byte 0)) }
     ensures last { result.no_comma_from ≤ result.len }
-    ensures no_comma_from { NoComma (drop result.no_comma_from (take result.len
-        (turned table.now (drop start cells.old)))) }
+    ensures no_comma_from { NoCommaFrom result.no_comma_from
+        (take result.len (turned table.now (drop start cells.old))) }
     ensures len { length cells.new ≡ length cells.old }
     ensures after { cells.new ≡
         with_cells_at cells.old to (turned table.now (drop start cells.old)) result.len }

@@ -3,7 +3,7 @@
 //! that text, and needs no other memory.
 ghost use Rattle.std.specs.Prelude.{◌≡◌, ◌<◌, IsTrue, map};
 ghost use Rattle.trac_space.specs.Cells.{IsNoCall};
-ghost use Rattle.trac_space.specs.Tags.{takes_tag, untagged, tag_of, has_tag};
+ghost use Rattle.trac_space.specs.Tags.{takes_tag, untagged, tag_of, has_tag, holds_comma};
 
 use crate::cell::{Cell, UNREACHED_NUMBER};
 
@@ -56,6 +56,14 @@ pub(crate) fn present_tag(cell: Cell) -> u32
         Cell::Head(number) | Cell::Gap(number) => number / 256,
         _ => UNREACHED_NUMBER[0],
     }
+}
+
+// Whether the cell is a comma mark, with or without a tag.
+#[inline(always)]
+pub(crate) fn holds_comma(cell: &Cell) -> bool
+    ensures { result ≡ holds_comma cell.now }
+{
+    matches!(cell, Cell::Comma | Cell::Gap(_))
 }
 
 // Takes the tags off the cells.

@@ -16,17 +16,17 @@ abbrev pub filled : List Text → List Cell → Text
 filled given cells = fill given (map item_of cells)
 
 -- characters alone are their text, which stands as they do and is as long
-filled-no_comma_from : (given : List Text) (cells : List Cell) → All IsByte cells → filled given cells ≡ text_of_cells cells
-filled-no_comma_from given [] h = refl
-filled-no_comma_from given (Byte c ∷ cells) h = ap (λ text. c ∷ text) (filled-no_comma_from given cells (All-tail IsByte (Byte c) cells h))
-filled-no_comma_from given (cell ∷ cells) h = absurd (All-head IsByte cell cells h)
+filled-characters : (given : List Text) (cells : List Cell) → All IsByte cells → filled given cells ≡ text_of_cells cells
+filled-characters given [] h = refl
+filled-characters given (Byte c ∷ cells) h = ap (λ text. c ∷ text) (filled-characters given cells (All-tail IsByte (Byte c) cells h))
+filled-characters given (cell ∷ cells) h = absurd (All-head IsByte cell cells h)
 
-pub no_comma_from-flat : (given : List Text) (cells : List Cell) → All IsByte cells → flat_text (filled given cells) ≡ cells
-no_comma_from-flat given cells h = ap flat_text (filled-no_comma_from given cells h) ∙ Byte-character_of cells h
+pub characters-flat : (given : List Text) (cells : List Cell) → All IsByte cells → flat_text (filled given cells) ≡ cells
+characters-flat given cells h = ap flat_text (filled-characters given cells h) ∙ Byte-character_of cells h
 
-pub no_comma_from-length : (given : List Text) (store : List Cell) (at end : ℕ) → end ≤ length store → All IsByte (slice_range store at end) → length (filled given (slice_range store at end)) ≡ end - at
-no_comma_from-length given store at end within h =
-    ap length (filled-no_comma_from given (slice_range store at end) h) ∙ length-map (slice_range store at end) character_of ∙ length-between store at end within
+pub characters-length : (given : List Text) (store : List Cell) (at end : ℕ) → end ≤ length store → All IsByte (slice_range store at end) → length (filled given (slice_range store at end)) ≡ end - at
+characters-length given store at end within h =
+    ap length (filled-characters given (slice_range store at end) h) ∙ length-map (slice_range store at end) character_of ∙ length-between store at end within
 
 -- the items of a body from a place on, as they stand in the store
 pub body-items : (store : List Cell) (body : List Item) (at from : ℕ) → from ≤ length body → slice_range store at (at + length body) ≡ map flat_item body → map item_of (slice_range store (at + from) (at + length body)) ≡ drop from body

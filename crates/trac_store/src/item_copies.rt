@@ -2,7 +2,7 @@
 ghost use Rattle.std.specs.Prelude.{◌≡◌, ◌+◌, ◌≤◌, ◌<◌, ◌↔◌, ◌++◌};
 ghost use Rattle.std.specs.Prelude.{length, map, slice_range, IsTrue, MatchOption};
 ghost use Rattle.std.specs.Bool.{OnTrue, OnFalse};
-ghost use Rattle.trac_space.specs.Cells.{NoCall, NoComma};
+ghost use Rattle.trac_space.specs.Cells.{NoCall};
 ghost use Rattle.trac_space.specs.Filled.{HaveCommas, filled};
 ghost use Rattle.trac_space.specs.Lists.{used as cells_used};
 ghost use Rattle.trac_space.specs.Tags.{untagged};
@@ -13,14 +13,13 @@ use trac_space::{Part, Space};
 
 /// Copies items of the store to the front of active, each gap k replaced by argument k: the k-th, from 1,
 /// of the texts between the comma marks of a part of neutral, or nothing if there is no such text (Mooers
-/// 1966). No comma mark stands in that part from place `no_comma_from` on. Gives how many characters the copy has.
-/// None if it doesn't fit; then at most the index area has been dropped.
+/// 1966). Gives how many characters the copy has. None if it doesn't fit; then at most the index area has been
+/// dropped.
 #[inline(always)]
-pub fn fill_items(space: &mut Space, items: Part, texts: Part, no_comma_from: u32) -> Option<u32>
+pub fn fill_items(space: &mut Space, items: Part, texts: Part) -> Option<u32>
     requires order { items.from ≤ items.to }
     requires within { items.to ≤ length space.old.store }
     requires arguments { AreParted space.old.neutral texts.from texts.to }
-    requires no_comma_from { NoComma (slice_range space.old.neutral no_comma_from texts.to) }
     ensures filled { let text = filled_cells space.old items.from items.to texts.from texts.to in
         LoadsText space.old space.new text result }
     ensures kept { IsKept space.old.index_area space.new.index_area }
@@ -32,7 +31,7 @@ pub fn fill_items(space: &mut Space, items: Part, texts: Part, no_comma_from: u3
             return loaded;
         }
     }
-    fill_gaps(space, items, texts, no_comma_from)
+    fill_gaps(space, items, texts)
 }
 
 // Copies items of the store to the front of active if all of them are characters and fit, and gives how
@@ -78,17 +77,16 @@ fn load_items_over_index(space: &mut Space, items: Part) -> Option<u32>
 // Does what `fill_items` does where gaps may be among the items. Meanwhile the places of the comma marks
 // are tags of the texts.
 #[inline(never)]
-fn fill_gaps(space: &mut Space, items: Part, texts: Part, no_comma_from: u32) -> Option<u32>
+fn fill_gaps(space: &mut Space, items: Part, texts: Part) -> Option<u32>
     requires order { items.from ≤ items.to }
     requires within { items.to ≤ length space.old.store }
     requires arguments { AreParted space.old.neutral texts.from texts.to }
-    requires no_comma_from { NoComma (slice_range space.old.neutral no_comma_from texts.to) }
     ensures filled { let text = filled_cells space.old items.from items.to texts.from texts.to in
         LoadsText space.old space.new text result }
     ensures kept { IsKept space.old.index_area space.new.index_area }
 {
     let first = texts.from.min(texts.to);
-    let commas = space.tag_commas(first, texts.to, no_comma_from);
+    let commas = space.tag_commas(first, texts.to);
     let given = Part {
         from: first,
         to: texts.to,

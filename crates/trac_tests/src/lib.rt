@@ -12,6 +12,8 @@ mod devices;
 #[cfg(test)]
 mod fakes;
 #[cfg(test)]
+mod interruptions;
+#[cfg(test)]
 mod machine;
 #[cfg(test)]
 mod session;

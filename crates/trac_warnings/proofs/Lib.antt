@@ -1,10 +1,12 @@
 pub mod Counting
 pub mod Grown
+pub mod InOrder
 pub mod Keeping
 pub mod LastRun
 pub mod NextNames
 pub mod Noted
 pub mod Plain
+pub mod PlainNumbers
 pub mod Said
 pub mod Searched
 pub mod Trimming

@@ -25,6 +25,7 @@ same_call (Some mark) watch warnings arguments neutral m input old new looks =
               places_are = e.places_are;
               around_is = e.around_is;
               inside_is = e.inside_is;
+              last_is = e.last_is;
               input_is = e.input_is;
             },
             looks.1.1.1.1,

@@ -1,12 +1,13 @@
 -- Rows of steps at which nothing is suspicious.
 use Rattle.std.proofs.Common.{◌≡◌, ◌∙◌, ◌+◌, ◌-◌, ◌<◌, ◌≤◌, ◌==◌, ◌⊎◌, ⊎_elim, ℕ, zero, suc, Bool, true, false, List, [], ◌∷◌, ◌++◌, Option, None, Some, add-one, ap, arith, eqb-true, drop, get_or, if◌then◌else◌, length, min, refl, subst, sym, take}
 use Rattle.std.proofs.lemmas.Bool.{cases_lt, lt-ltb, le-ltb, ltb-true, ltb-false}
-use Rattle.std.proofs.lemmas.List.{drop-drop, length-drop, length-take}
+use Rattle.std.proofs.lemmas.List.{drop-drop, length-drop, length-map, length-take}
 use Rattle.std.proofs.lemmas.List.Sums.{prefix_len-le-length, prefix_len_passes}
 use Rattle.std.specs.List.{prefix_len}
 use Rattle.std.specs.Prelude.{◌&&◌, cond, nat_lt, not, reverse, slice_get}
 use Rattle.std.specs.Bool.{nat_eq}
 use Rattle.std.specs.Option.{option_eq}
+use Rattle.trac_language.specs.Protected.{protected}
 use Rattle.trac_language.specs.Text.{Text}
 use Rattle.trac_language.specs.declared.mode.Mode.{Mode}
 use Rattle.trac_language.specs.declared.mode.Mode.TheVariants.{Active, Neutral}
@@ -16,9 +17,9 @@ use Rattle.trac_core.specs.declared.rules.ScanningRule.{ScanningRule}
 use Rattle.trac_core.specs.declared.rules.ScanningRule.TheVariants as row
 use Rattle.trac_core.proofs.RuleRows.{opens-active, opens-neutral, row-begins}
 use Rattle.trac_warnings.specs.Origins.{behind, behind_in, first_origin, more, origin_at, shortened, taken}
-use Rattle.trac_space.specs.Texts.{text_of_cells}
+use Rattle.trac_space.specs.Texts.{character_of, text_of_cells}
 use Rattle.trac_space.specs.declared.cell.Cell.{Cell}
-use Rattle.trac_core.proofs.Scanning.{drop-text, take-text}
+use Rattle.trac_core.proofs.Scanning.{drop-text, rule-parenthesis, take-text}
 use Rattle.trac_warnings.specs.Rows.{FollowsRow, FollowsSoFar, IsQuietBehind, IsQuietRow, OpenBefore, Trail, argument_origin, begins_argument, begins_call, begun, is_at, is_plain, is_quiet, none_ends, opened, text_after, text_left, trail_after, trail_behind, trail_of, without}
 use Rattle.trac_warnings.specs.StepWarnings.{takes_only}
 use Rattle.trac_warnings.specs.declared.origin.Origin.{Origin}
@@ -72,9 +73,14 @@ pub without-some : (n : ℕ) (runs : List Run) → 0 < n → taken n runs ≡ wi
 without-some zero runs some = absurd (omega (arith, some))
 without-some (suc n) runs some = refl
 
-without-more : (n : ℕ) (runs : List Run) → taken 1 (without n runs) ≡ without (n + 1) runs
-without-more zero runs = refl
-without-more (suc n) runs = taken-again (suc n) 1 runs ∙ without-some (suc n + 1) runs (omega arith)
+without-more : (n count : ℕ) (runs : List Run) → 0 < count → taken count (without n runs) ≡ without (n + count) runs
+without-more zero count runs some = without-some count runs some ∙ ap (λ n. without n runs) (omega arith)
+without-more (suc n) count runs some = taken-again (suc n) count runs ∙ without-some (suc n + count) runs (omega (arith, some))
+
+-- the first character behind the first `n` of a run that has more
+pub first-behind : (n : ℕ) (run : Run) (runs : List Run) → 0 < n → n < run.len → first_origin (without n (run ∷ runs)) ≡ Some (behind n run.origin)
+first-behind zero run runs some less = absurd (omega (arith, some))
+first-behind (suc n) run runs some less = ap (λ t. first_origin (if t then shortened (suc n) run ∷ runs else taken (suc n - run.len) runs)) (lt-ltb (suc n) run.len less)
 
 -- ---- rules
 
@@ -148,24 +154,23 @@ quiet-more text strings n before here k less =
     ⊎_elim (λ earlier. before k earlier) (λ later. (let same : n ≡ k = omega arith in subst (IsQuietBehind text strings) same here)) (cases_lt k n)
 
 module _ {A : Type 0} (text : Text) (old : Watch A) where
-  -- one step more was followed, by a rule that goes on with the row
+  -- one step more was followed, by a rule that is quiet
   pub more-followed : (r : Row) (middle new : Watch A) (count pending : ℕ) → FollowsSoFar text r old middle
-      → goes_on (row_of (rule (drop r.place text))) ≡ true → count ≡ taken_in_row (row_of (rule (drop r.place text)))
+      → is_quiet (rule (drop r.place text)) ≡ true → count ≡ taken_by (rule (drop r.place text)) (length (drop r.place text))
       → r.place + count ≤ length text → none_ends (reverse old.strings.items) (length text - (r.place + count)) ≡ true
       → trail_behind (drop r.place text) old.read (record (trail_of middle) { runs = without r.pending (reverse middle.runs.items) }) ≡ record (trail_of new) { runs = without pending (reverse new.runs.items) }
       → new ≡ record middle { runs = new.runs; calls = new.calls; commas = new.commas }
       → FollowsSoFar text (record { steps = r.steps + 1; place = r.place + count; pending = pending }) old new
-  more-followed r middle new count pending so goes count_is within open_still trail stays =
+  more-followed r middle new count pending so quiet count_is within open_still trail stays =
       let t = drop r.place text in
-      let row_says = quiet-row (rule t) goes in
       let next = add-one r.steps in
       let left : text_after (suc r.steps) text ≡ drop (r.place + count) text =
-      ap text_left so.left ∙ ap (λ n. drop n t) (row_says.1 (length t) ∙ sym count_is) ∙ drop-drop count r.place text in
+      ap text_left so.left ∙ ap (λ n. drop n t) (sym count_is) ∙ drop-drop count r.place text in
       record {
         quiet =
             quiet-more text (reverse old.strings.items) r.steps so.quiet
             (record {
-              quiet = ap (λ t. is_quiet (rule t)) so.left ∙ row_says.0;
+              quiet = ap (λ t. is_quiet (rule t)) so.left ∙ quiet;
               open_still = ap (none_ends (reverse old.strings.items)) (ap (λ t. length t) left ∙ length-drop (r.place + count) text) ∙ open_still;
             });
         left = ap (λ k. text_after k text) next ∙ left;
@@ -183,9 +188,10 @@ module _ {A : Type 0} (text : Text) (old : Watch A) where
       let t = drop r.place text in
       let runs = without r.pending (reverse new.runs.items) in
       let plain = plain-row (row_of (rule t)) (origin_at old.read (first_origin runs)) (text_left t) new.calls.items new.commas.items only in
-      let one : taken_by (rule t) (length t) ≡ 1 = (quiet-row (rule t) plain.0).1 (length t) ∙ plain.1.0 in
-      let runs_are : taken (taken_by (rule t) (length t)) runs ≡ without (r.pending + 1) (reverse new.runs.items) = ap (λ n. taken n runs) one ∙ without-more r.pending (reverse new.runs.items) in
-      more-followed r new new 1 (r.pending + 1) so plain.0 (sym plain.1.0) within open_still
+      let says = quiet-row (rule t) plain.0 in
+      let one : taken_by (rule t) (length t) ≡ 1 = says.1 (length t) ∙ plain.1.0 in
+      let runs_are : taken (taken_by (rule t) (length t)) runs ≡ without (r.pending + 1) (reverse new.runs.items) = ap (λ n. taken n runs) one ∙ without-more r.pending 1 (reverse new.runs.items) (omega arith) in
+      more-followed r new new 1 (r.pending + 1) so says.0 (sym one) within open_still
       (λ i. record { runs = runs_are i; calls = plain.1.1.0 i; commas = plain.1.1.1 i }) refl
 
   -- several steps more, which only take a character each
@@ -203,24 +209,37 @@ module _ {A : Type 0} (text : Text) (old : Watch A) where
       subst (λ r. FollowsSoFar text r old new) (same-row more (record { steps = r.steps + suc count; place = r.place + suc count; pending = r.pending + suc count }) (omega arith) (omega arith) (omega arith))
       (plain-followed (record { steps = r.steps + count; place = r.place + count; pending = r.pending + count }) new before only (omega arith) (open_before (r.place + count + 1) (omega arith) (omega arith)))
 
-  -- a step more, at a mark, before which no character is pending
-  pub mark-followed : (r : Row) (middle new : Watch A) (reach count : ℕ) → FollowsSoFar text r old middle → OpenBefore reach text (reverse old.strings.items) → reach ≤ length text
+  -- a step more, at a mark, before which the origins of `pending` characters are left
+  pub mark-followed : (r : Row) (middle new : Watch A) (reach count pending : ℕ) → FollowsSoFar text r old middle → OpenBefore reach text (reverse old.strings.items) → reach ≤ length text
       → goes_on (row_of (rule (drop r.place text))) ≡ true → count ≡ taken_in_row (row_of (rule (drop r.place text))) → 0 < count → r.place + count ≤ reach
-      → reverse new.runs.items ≡ without r.pending (reverse middle.runs.items)
-      → new.calls.items ≡ opened (row_of (rule (drop r.place text))) (origin_at old.read (first_origin (reverse new.runs.items))) middle.calls.items
-      → new.commas.items ≡ begun (row_of (rule (drop r.place text))) (origin_at old.read (first_origin (reverse new.runs.items))) (text_left (drop r.place text)) middle.commas.items
+      → without pending (reverse new.runs.items) ≡ without r.pending (reverse middle.runs.items)
+      → new.calls.items ≡ opened (row_of (rule (drop r.place text))) (origin_at old.read (first_origin (without r.pending (reverse middle.runs.items)))) middle.calls.items
+      → new.commas.items ≡ begun (row_of (rule (drop r.place text))) (origin_at old.read (first_origin (without r.pending (reverse middle.runs.items)))) (text_left (drop r.place text)) middle.commas.items
       → new ≡ record middle { runs = new.runs; calls = new.calls; commas = new.commas }
-      → FollowsSoFar text (record { steps = r.steps + 1; place = r.place + count; pending = count }) old new
-  mark-followed r middle new reach count so open_before far goes count_is some within runs calls commas stays =
+      → FollowsSoFar text (record { steps = r.steps + 1; place = r.place + count; pending = pending + count }) old new
+  mark-followed r middle new reach count pending so open_before far goes count_is some within runs calls commas stays =
       let t = drop r.place text in
-      let taken_is : taken_by (rule t) (length t) ≡ count = (quiet-row (rule t) goes).1 (length t) ∙ sym count_is in
-      let runs_are : taken (taken_by (rule t) (length t)) (without r.pending (reverse middle.runs.items)) ≡ without count (reverse new.runs.items) =
-      ap (taken (taken_by (rule t) (length t))) (sym runs) ∙ ap (λ n. taken n (reverse new.runs.items)) taken_is ∙ without-some count (reverse new.runs.items) some in
-      let here = λ (runs : List Run). origin_at old.read (first_origin runs) in
-      let calls_are = ap (λ x. opened (row_of (rule t)) (here x) middle.calls.items) (sym runs) ∙ sym calls in
-      let commas_are = ap (λ x. begun (row_of (rule t)) (here x) (text_left t) middle.commas.items) (sym runs) ∙ sym commas in
-      more-followed r middle new count count so goes count_is (omega arith) (open_before (r.place + count) (omega arith) within)
-      (λ i. record { runs = runs_are i; calls = calls_are i; commas = commas_are i }) stays
+      let says = quiet-row (rule t) goes in
+      let taken_is : taken_by (rule t) (length t) ≡ count = says.1 (length t) ∙ sym count_is in
+      let runs_are : taken (taken_by (rule t) (length t)) (without r.pending (reverse middle.runs.items)) ≡ without (pending + count) (reverse new.runs.items) =
+      ap (taken (taken_by (rule t) (length t))) (sym runs) ∙ ap (λ n. taken n (without pending (reverse new.runs.items))) taken_is ∙ without-more pending count (reverse new.runs.items) some in
+      more-followed r middle new count (pending + count) so says.0 (sym taken_is) (omega arith) (open_before (r.place + count) (omega arith) within)
+      (λ i. record { runs = runs_are i; calls = sym calls i; commas = sym commas i }) stays
+
+  -- a step more, which takes over a protected text
+  pub text-followed : (r : Row) (new : Watch A) (reach count : ℕ) (inside rest : Text) → FollowsSoFar text r old new → OpenBefore reach text (reverse old.strings.items) → reach ≤ length text
+      → rule (drop r.place text) ≡ AddProtected inside rest → count ≡ length inside + 2 → r.place + count ≤ reach
+      → FollowsSoFar text (record { steps = r.steps + 1; place = r.place + count; pending = r.pending + count }) old new
+  text-followed r new reach count inside rest so open_before far is count_is within =
+      let t = drop r.place text in
+      let runs = without r.pending (reverse new.runs.items) in
+      let here = origin_at old.read (first_origin runs) in
+      let taken_is : taken_by (rule t) (length t) ≡ count = ap (λ r. taken_by r (length t)) is ∙ sym count_is in
+      let runs_are : taken (taken_by (rule t) (length t)) runs ≡ without (r.pending + count) (reverse new.runs.items) = ap (λ n. taken n runs) taken_is ∙ without-more r.pending count (reverse new.runs.items) (omega (arith, count_is)) in
+      let calls_are = ap (λ r. opened (row_of r) here new.calls.items) is in
+      let commas_are = ap (λ r. begun (row_of r) here (text_left t) new.commas.items) is in
+      more-followed r new new count (r.pending + count) so (ap is_quiet is) (sym taken_is) (omega arith) (open_before (r.place + count) (omega (arith, count_is)) within)
+      (λ i. record { runs = runs_are i; calls = calls_are i; commas = commas_are i }) refl
 
 -- ---- marks
 
@@ -237,8 +256,23 @@ get-dropped text zero k = ap (slice_get text) (omega arith)
 get-dropped [] (suc place) k = refl
 get-dropped (c ∷ text) (suc place) k = let next : suc (place + k) ≡ suc place + k = omega arith in get-dropped text place k ∙ ap (slice_get (c ∷ text)) next
 
+pub at-dropped : (text : Text) (place c : ℕ) → is_at (drop place text) 0 c ≡ is_at text place c
+at-dropped text place c =
+    let same : place + 0 ≡ place = omega arith in
+    ap (λ o. option_eq nat_eq o (Some c)) (get-dropped text place 0 ∙ ap (slice_get text) same)
+
 pub first-there : (text : Text) (place c : ℕ) → place < length text → get_or text place 0 ≡ c → slice_get (drop place text) 0 ≡ Some c
 first-there text place c less is = ap (λ t. slice_get t 0) (head_of text place 0 less) ∙ ap Some is
+
+-- the rule of a left parenthesis whose match is found
+pub protected-mark : (text : Text) (place len : ℕ) → place < length text → get_or text place 0 ≡ 40 → len < length (drop (place + 1) text)
+    → protected (drop (place + 1) text) ≡ Some (take len (drop (place + 1) text), drop (len + 1) (drop (place + 1) text))
+    → (inside : Text) × ((rest : Text) × ((rule (drop place text) ≡ AddProtected inside rest) × (len + 2 ≡ length inside + 2)))
+protected-mark text place len within opens near found =
+    let behind = drop (place + 1) text in
+    let first : drop place text ≡ 40 ∷ behind = head_of text place 0 within ∙ ap (λ c. c ∷ behind) opens in
+    let inside_len : length (take len behind) ≡ len = omega (arith, near, length-take len behind) in
+    (take len behind, (drop (len + 1) behind, (ap rule first ∙ rule-parenthesis behind _ found, ap (λ n. n + 2) (sym inside_len))))
 
 pub comma-mark : (text : Text) (place : ℕ) → place < length text → get_or text place 0 ≡ 44 → begins_argument (row_of (rule (drop place text))) ≡ true
 comma-mark text place less is = ap begins_argument (sym (row-begins row.Argument (drop place text) (first-there text place 44 less is)))
@@ -297,9 +331,28 @@ prefix-taken p (suc n) (x ∷ xs) = go (p x) (prefix-taken p n xs)
     go true fewer = omega (arith, fewer)
     go false fewer = omega arith
 
+-- the first of some plain characters, and those behind it
+plain-head : (c : ℕ) (rest : Text) → 0 < prefix_len is_plain (c ∷ rest) → prefix_len is_plain (c ∷ rest) ≡ prefix_len is_plain rest + 1
+plain-head c rest = go (is_plain c)
+  where
+    go : (b : Bool) → 0 < cond b (1 + prefix_len is_plain rest) 0 → cond b (1 + prefix_len is_plain rest) 0 ≡ prefix_len is_plain rest + 1
+    go true some = omega arith
+    go false some = absurd (omega (arith, some))
+
 -- plain characters of a part of the cells
 pub plain-part : (cells : List Cell) (place end count : ℕ) → place ≤ end → count ≡ prefix_len is_plain (text_of_cells (take (end - place) (drop place cells))) → (place + count ≤ end) × (count ≤ prefix_len is_plain (drop place (text_of_cells cells)))
 plain-part cells place end count order is =
     let part = drop place (text_of_cells cells) in
     let same : count ≡ prefix_len is_plain (take (end - place) part) = is ∙ ap (prefix_len is_plain) (take-text (end - place) (drop place cells) ∙ ap (take (end - place)) (drop-text place cells)) in
     (omega (arith, same, prefix_len-le-length is_plain (take (end - place) part), length-take (end - place) part), omega (arith, same, prefix-taken is_plain (end - place) part))
+
+-- plain characters of a part of the cells behind one that is plain
+pub plain-behind : (cells : List Cell) (place end count : ℕ) → place < end → end ≤ length cells → 0 < prefix_len is_plain (drop place (text_of_cells cells))
+    → count ≡ prefix_len is_plain (text_of_cells (take (end - (place + 1)) (drop (place + 1) cells)))
+    → (place + (count + 1) ≤ end) × (count + 1 ≤ prefix_len is_plain (drop place (text_of_cells cells)))
+plain-behind cells place end count order within first is =
+    let text = text_of_cells cells in
+    let part = plain-part cells (place + 1) end count (omega arith) is in
+    let here = head_of text place 0 (omega (arith, length-map cells character_of)) in
+    let more = ap (prefix_len is_plain) here ∙ plain-head (get_or text place 0) (drop (place + 1) text) (subst (λ t. 0 < prefix_len is_plain t) here first) in
+    (omega (arith, part.0), omega (arith, part.1, more))

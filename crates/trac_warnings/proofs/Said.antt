@@ -47,7 +47,7 @@ next_spelled old new whole reported sign later place input less added is all =
     (subst (λ t. later ≡ reported_behind (spelling_of t) reported (get_or t 0 0)) part is)
     (subst (λ t. old ++ spelled reported sign place t ≡ whole) head all)
 
--- the calls at a place of the input, and behind it, whose names are nearly those of functions
+-- the calls at a place of the input, and behind it, whose names are misspelled
 pub next_misspelled : (old new whole : List Said) (place : ℕ) (input : List ℕ) → place < length input
     → new ≡ old ++ misspelled_at place (take (length input - place) (drop place input))
     → old ++ misspelled_from place (drop place input) ≡ whole → new ++ misspelled_from (place + 1) (drop (place + 1) input) ≡ whole

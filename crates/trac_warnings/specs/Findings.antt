@@ -8,7 +8,7 @@ use Rattle.trac_warnings.specs.Origins.{more}
 use Rattle.trac_warnings.specs.declared.warning.Suspicion.{Suspicion}
 use Rattle.trac_warnings.specs.declared.warning.Suspicion.TheVariants.{NoForm, BlankInName, NotInForm, NoGap}
 use Rattle.trac_warnings.specs.declared.warning.Suspicion.TheVariants.{InOtherLetters, FewArguments, Misspelled}
-use Rattle.trac_warnings.specs.declared.warning.Suspicion.TheVariants.{NoFunction}
+use Rattle.trac_warnings.specs.declared.warning.Suspicion.TheVariants.{FormAsFunction, NoFunction}
 use Rattle.trac_warnings.specs.declared.warning.Warning.{Warning}
 
 -- how often a warning was given, once more counted
@@ -18,7 +18,7 @@ once_more (Some times) = more times 1
 
 -- whether a suspicion is one of those of which each form gets one warning, since one mistake makes many: that no form
 -- has the name, that a text of `ss` isn't in the form, that it has no gap for an argument, or that it got fewer
--- arguments than it has gaps; and that a name is nearly that of a function
+-- arguments than it has gaps; and that a name is misspelled
 abbrev pub is_of_form : Suspicion → Bool
 is_of_form NoForm = true
 is_of_form BlankInName = true
@@ -29,9 +29,10 @@ is_of_form FewArguments = true
 is_of_form Misspelled = true
 is_of_form _ = false
 
--- whether a suspicion is that no function has the name of a call
+-- whether a suspicion is that no function has the name of a call, though a form may have it
 abbrev pub is_unknown : Suspicion → Bool
 is_unknown NoFunction = true
+is_unknown FormAsFunction = true
 is_unknown _ = false
 
 -- whether the name of a suspicion is kept, so that no other is told of it

@@ -18,4 +18,3 @@ pub mod Looked
 pub mod Misspelled
 pub mod StepWarnings
 pub mod Rows
-pub mod Unmarked

@@ -1,6 +1,6 @@
 -- What is looked at before a step, and what is said of it.
 use Rattle.std.specs.Prelude.{◌≡◌, ℕ, ◌-◌, ◌&&◌, Bool, false, List, [], length, take, drop}
-use Rattle.std.specs.Prelude.{reverse, slice_get, Option, None, Some, unwrap_or, nat_le, nat_lt}
+use Rattle.std.specs.Prelude.{reverse, slice_get, Option, None, Some, is_none, unwrap_or, nat_le, nat_lt}
 use Rattle.std.specs.Bool.{nat_eq}
 use Rattle.std.specs.Option.{option_eq}
 use Rattle.trac_language.specs.Rule.{rule}
@@ -65,6 +65,11 @@ is_inside watch begin =
     nat_lt (more (depth_of (open_string watch)) 1) (length watch.calls.items)
     && is_beside (slice_get watch.calls.items (length watch.calls.items - 2)) begin
 
+-- whether the right parenthesis at a place stands in the input, and another one behind it
+abbrev pub is_last : Origin → List ℕ → Bool
+is_last end known =
+    is_none end.form && option_eq nat_eq (slice_get known (more end.offset 1)) (Some 41)
+
 -- where the arguments behind the name of the innermost call were written; `arguments` are its cells
 abbrev pub places_of : List Origin → List Cell → List Origin
 places_of commas arguments = drop (length commas - commas_of arguments) commas
@@ -85,6 +90,7 @@ pub record IsEnding
   pub places_are : ending.places.now ≡ places_of watch.commas.items (top_frame neutral mark)
   pub around_is : ending.around.now ≡ around_of outer neutral mark
   pub inside_is : ending.is_inside ≡ is_inside watch (begin_of watch)
+  pub last_is : ending.is_last ≡ is_last (place_of watch) known
   pub input_is : ending.input.now ≡ known
 
 -- the warnings of the call whose mark stands at `mark` are added

@@ -20,6 +20,10 @@ takes_numbers Greater = true
 takes_numbers (Arithmetic operation) = true
 takes_numbers _ = false
 
+-- whether all cells are digits
+abbrev pub are_digits : List Cell → Bool
+are_digits cells = list_all is_ascii_digit (text_of_cells cells)
+
 -- whether a function adds, subtracts or multiplies
 abbrev pub adds : Function → Bool
 adds (Arithmetic Divide) = false

@@ -11,7 +11,8 @@ use Rattle.trac_language.specs.Form.{Form}
 use Rattle.trac_language.specs.Text.{Text}
 use Rattle.trac_language.specs.Function.{function_named}
 use Rattle.trac_language.specs.declared.function.Function.{Function}
-use Rattle.trac_language.specs.declared.function.Function.TheVariants.{SegmentString, CallForm, InitialPart}
+use Rattle.trac_language.specs.declared.function.Function.TheVariants.{DefineString, SegmentString, CallForm}
+use Rattle.trac_language.specs.declared.function.Function.TheVariants.{InitialPart}
 use Rattle.trac_language.specs.declared.function.Function.TheVariants.{Equal, PrintString, ChangeMeta}
 use Rattle.trac_language.specs.Table.{traits}
 use Rattle.trac_language.specs.declared.table.Given.{Given}
@@ -26,11 +27,13 @@ use Rattle.trac_events.specs.Changes.{form_of, is_same, takes_part}
 use Rattle.trac_warnings.specs.Blanks.{trimmed}
 use Rattle.trac_warnings.specs.Gaps.{highest_gap, is_absent, stands_in, stands_in_name, stands_in_words}
 use Rattle.trac_warnings.specs.Letters.{differ_by_letters, stands_in_letters}
-use Rattle.trac_warnings.specs.Operands.{adds, are_thousands, is_number, operand_among, suspicion_of_operand, takes_numbers}
+use Rattle.trac_warnings.specs.Operands.{adds, are_thousands, is_number, operand_among, suspicion_of_operand}
+use Rattle.trac_warnings.specs.Operands.{takes_numbers}
 use Rattle.trac_warnings.specs.Printed.{begins_with_line_end, behind_call, closes_at_end, has_two_at_end}
 use Rattle.trac_warnings.specs.Suspicions.{is_called_alone, is_written, suspicion_of_name}
 use Rattle.trac_warnings.specs.Watched.{Said, said}
 use Rattle.trac_warnings.specs.declared.origin.Origin.{Origin}
+use Rattle.trac_warnings.specs.declared.performed.CalledFunction.{CalledFunction}
 use Rattle.trac_warnings.specs.declared.performed.Ending.{Ending}
 use Rattle.trac_warnings.specs.declared.warning.Suspicion.{Suspicion}
 use Rattle.trac_warnings.specs.declared.warning.Suspicion.TheVariants.{NoFunction, FormAsFunction, NoForm}
@@ -134,19 +137,32 @@ gives_nothing _ = false
 abbrev pub acts : Traits → Bool
 acts traits = traits.prints || (traits.changes_forms && gives_nothing traits.gives)
 
--- what is suspicious in a call that ends the run, reads, prints or changes forms, and stands in the last argument of
--- the call `around`
-abbrev pub inside : Function → List Cell → Option Suspicion
-inside function around =
+-- whether a function is `ds`, which defines a form
+abbrev pub defines : Option Function → Bool
+defines (Some DefineString) = true
+defines _ = false
+
+-- whether a call is the whole body that `ds` gives a form, but for calls before it that have left nothing
+abbrev pub is_whole_body : Ending → Bool
+is_whole_body ending =
+    ending.is_last && (defines (function_of ending.around.now)
+    && ((commas_of ending.around.now == 2) && not (is_given (argument_of ending.around.now 2))))
+
+-- what is suspicious in a call that ends the run, reads, prints or changes forms, and stands in the last argument so
+-- far of the call around it
+abbrev pub inside : Function → Ending → Option Suspicion
+inside function ending =
+    let around = ending.around.now in
     if (traits function).ends then Some HaltInside
     else (if (traits function).reads && is_in_default around then Some ReadsAlways
-    else (if acts (traits function) && is_in_default around then Some ActsAlways else None))
+    else (if acts (traits function) && (is_in_default around || is_whole_body ending)
+    then Some ActsAlways else None))
 
 -- the warning of a call that ends the run, reads, prints or changes forms inside another call of the same text
 abbrev pub nested : Function → Ending → List Said
 nested function ending =
     if ending.is_inside
-    then name_warnings (inside function ending.around.now) ending.begin (argument_of ending.around.now 0)
+    then name_warnings (inside function ending) ending.begin (argument_of ending.around.now 0)
     else []
 
 -- the warning of the first of two arguments in which something is suspicious, of the call at an origin
@@ -235,7 +251,8 @@ meta_change_warnings function ending =
     where_so (changes_meta function && (begins_with_line_end (text_of_cells new)
     && has_two_at_end false ending.input.now)) LineEndAsMeta ending.begin new
 
--- the warnings of the texts that a call compares, or computes with, or that it prints, or that has the new meta character
+-- the warnings of the texts that a call compares, or computes with, or that it prints, or that has the new meta
+-- character
 abbrev pub given_warnings : Function → Ending → List Said
 given_warnings function ending =
     side_warnings function ending ++ (comma_warnings function ending
@@ -466,6 +483,12 @@ form_warnings function forms ending =
     let name = argument_of ending.arguments.now 1 in
     if (traits function).needs_form then of_form function (form_of name forms) forms name ending else []
 
+-- the warnings of the arguments that a function uses
+abbrev pub use_warnings : Function → List Form → Ending → List Said
+use_warnings function forms ending =
+    operand_warnings function forms ending
+    ++ (given_warnings function ending ++ form_warnings function forms ending)
+
 -- the warnings of a call of a function
 abbrev pub function_warnings : Option Function → List Form → Ending → List Said
 function_warnings None forms ending =
@@ -473,13 +496,18 @@ function_warnings None forms ending =
     name_warnings (suspicion_of_call forms name) ending.begin name
 function_warnings (Some function) forms ending =
     ignored_behind (traits function).uses ending
-    ++ (nested function ending
-    ++ (operand_warnings function forms ending
-    ++ (given_warnings function ending ++ form_warnings function forms ending)))
+    ++ (nested function ending ++ use_warnings function forms ending)
 
 -- the warnings of a call that is about to be performed, while `forms` are there
 abbrev pub call_warnings : List Form → Ending → List Said
 call_warnings forms ending = function_warnings (function_of ending.arguments.now) forms ending
+
+-- `called` is the function that the arguments of a call name, while `forms` are there
+abbrev pub IsCalled : Option CalledFunction → List Cell → List Form → Type 0
+IsCalled None arguments forms = None ≡ function_of arguments
+IsCalled (Some called) arguments forms = (Some called.function ≡ function_of arguments)
+    × ((called.held ≡ traits called.function)
+    × ((traits called.function).needs_form ≡ true → called.form ≡ form_of (argument_of arguments 1) forms))
 
 -- `new` are the warnings `old` and others, which say `more`
 abbrev pub Warns : {A : Type 0} → List (Warning A) → List (Warning A) → List Said → Type 0

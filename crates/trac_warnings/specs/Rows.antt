@@ -1,8 +1,9 @@
 -- Rows of steps at which nothing is suspicious.
-use Rattle.std.specs.Prelude.{◌≡◌, ℕ, zero, suc, ◌-◌, ◌<◌, ◌≤◌, ◌==◌, ◌&&◌, Bool, true, false, not}
+use Rattle.std.specs.Prelude.{◌≡◌, ℕ, zero, suc, ◌+◌, ◌-◌, ◌<◌, ◌≤◌, ◌==◌, ◌&&◌, Bool, true, false, not}
 use Rattle.std.specs.Prelude.{List, [], ◌∷◌, ◌++◌, drop, length}
 use Rattle.std.specs.Prelude.{reverse, nat_lt, slice_get, Some, if◌then◌else◌}
 use Rattle.std.specs.Bool.{nat_eq}
+use Rattle.std.specs.List.{prefix_len}
 use Rattle.std.specs.Option.{option_eq}
 use Rattle.trac_language.specs.Text.{Text}
 use Rattle.trac_language.specs.Rule.{Rule, LoadIdling, DeleteLayout, AddProtected, ClearActive, BeginArgument}
@@ -20,11 +21,11 @@ use Rattle.trac_warnings.specs.declared.watch.rows.Mark.TheVariants as mark
 use Rattle.trac_warnings.specs.declared.watch.rows.Row.{Row}
 
 -- whether nothing is suspicious in a step by a rule, unless a string ends there: the step loads no idling procedure,
--- ends no call, and takes over no protected text
+-- ends no call, and drops nothing
 abbrev pub is_quiet : Rule → Bool
 is_quiet LoadIdling = false
 is_quiet (DeleteLayout rest) = true
-is_quiet (AddProtected inside rest) = false
+is_quiet (AddProtected inside rest) = true
 is_quiet ClearActive = false
 is_quiet (BeginArgument rest) = true
 is_quiet (BeginCall mode rest) = true
@@ -84,10 +85,12 @@ is_at text place c = option_eq nat_eq (slice_get text place) (Some c)
 
 -- what a text begins with
 abbrev pub Marks : Mark → Text → Type 0
-Marks mark.Plain text = Unit {0}
+Marks mark.Plain text = 0 < prefix_len is_plain text
 Marks mark.Comma text = begins_argument (row_of (rule text)) ≡ true
 Marks (mark.Call count) text =
     (begins_call (row_of (rule text)) ≡ true) × (count ≡ taken_in_row (row_of (rule text)))
+Marks (mark.Protected count) text =
+    (inside : Text) × ((rest : Text) × ((rule text ≡ AddProtected inside rest) × (count ≡ length inside + 2)))
 Marks mark.Other text = Unit {0}
 
 -- where an argument was written, by its comma and the text behind that: what is protected begins behind its parenthesis

@@ -49,6 +49,7 @@ KeepsPlaces old new = new ≡ record old {
   warnings = new.warnings;
   arguments = new.arguments;
   given = new.given;
+  choice = new.choice;
   value = new.value;
   neutral = new.neutral;
 }

@@ -35,16 +35,14 @@ fn before_blanks(cells: &[Cell]) -> &[Cell]
     }
 }
 
-// The cells before the blanks and the layout at their end, found from their head.
+// The cells before the blanks and the layout at their end, found from their end.
 #[inline(never)]
 fn before_last_blanks(cells: &[Cell]) -> &[Cell]
     ensures { result.now ≡ before_blanks cells.now }
 {
-    let mut end: usize = 0;
-    for (i, cell) in cells.iter().enumerate() {
-        if !is_blank(cell) {
-            end = i + 1;
-        }
+    let mut end = cells.len();
+    while end > 0 && is_blank(&cells[end - 1]) {
+        end -= 1;
     }
     &cells[..end]
 }

@@ -31,9 +31,9 @@ impl<A: Allocator + Copy> Findings<A> {
 
     /// Adds a warning. Of a form's name only the first warning is kept that no form has it, that a text of `ss`
     /// isn't in the form, or that the form has no gap for an argument, wherever the others stand: they mostly
-    /// come from one mistake. The same goes for the number of arguments that a form got. A name that is nearly
-    /// that of a function is warned of once, and not at all if there was a warning of a call of that name. Fails
-    /// only if memory runs out.
+    /// come from one mistake. The same goes for the number of arguments that a form got. A misspelled name is
+    /// warned of once, and not at all if there was a warning of a call of that name. Fails only if memory runs
+    /// out.
     pub fn add(&mut self, warning: Warning<A>) -> Result<(), AllocError>
         ensures repeated { is_repeated warning self.old.reported ≡ true →
             self.new.counts.entries ≡ self.old.counts.entries }
@@ -95,7 +95,7 @@ fn is_of_form(suspicion: Suspicion) -> bool
 fn is_noted(suspicion: Suspicion) -> bool
     ensures { result ≡ is_noted suspicion }
 {
-    is_of_form(suspicion) || matches!(suspicion, Suspicion::NoFunction)
+    is_of_form(suspicion) || matches!(suspicion, Suspicion::NoFunction | Suspicion::FormAsFunction)
 }
 
 // Adds a name. False if it was there before.

@@ -1,7 +1,10 @@
-//! Calls in a script whose names are nearly those of functions.
+//! Calls in a script whose names are misspelled.
 ghost use Rattle.std.specs.Prelude.{◌≡◌, ◌≤◌, OnOk, length};
-ghost use Rattle.trac_warnings.specs.Misspelled.{behind_call, ends_name, has_one_more, is_function, is_turned};
-ghost use Rattle.trac_warnings.specs.Misspelled.{longer_len, misspelled_at, misspelled_warnings, near_len};
+ghost use Rattle.std.specs.Char.{is_ascii_alphabetic};
+ghost use Rattle.std.specs.List.{prefix_len};
+ghost use Rattle.trac_warnings.specs.Misspelled.{behind_call, ends_name, has_one_more, has_small, is_function};
+ghost use Rattle.trac_warnings.specs.Misspelled.{is_misspelled, is_turned, misspelled_at, misspelled_len};
+ghost use Rattle.trac_warnings.specs.Misspelled.{misspelled_warnings};
 ghost use Rattle.trac_warnings.specs.Performed.{Warns};
 ghost use Rattle.trac_warnings.specs.Watched.{Kept};
 
@@ -9,11 +12,12 @@ use crate::names::suspicion_of_name;
 use crate::warning::{Suspicion, Warning};
 use crate::written::warn_at;
 use std::alloc::{AllocError, Allocator};
+use trac_events::{NumberSign, count_before};
 use trac_functions::function::function_named;
 use trac_space::Cell;
 
-/// Adds the calls in a script whose names no function has, and are nearly those of functions. They are for calls
-/// that were never performed: an unknown name in a call that is performed is warned of then. Fails only if memory
+/// Adds the calls in a script whose names no function has, and probably should be those of functions. They are for
+/// calls that were never performed: an unknown name in a call that is performed is warned of then. Fails only if memory
 /// runs out.
 #[inline(never)]
 #[tactic(auto, using(crate::proofs::Keeping::keeping))]
@@ -26,8 +30,10 @@ pub fn look_at_names<A: Allocator + Copy>(
     ensures said { OnOk result (Warns warnings.old.items warnings.new.items
         (misspelled_warnings input.now)) }
 {
-    for place in 0..input.len() {
+    let mut place = count_before(&NumberSign, input);
+    while place < input.len() {
         look_at_name(warnings, alloc, place, &input[place..])?;
+        place += count_before(&NumberSign, &input[place + 1..]) + 1;
     }
     Ok(())
 }
@@ -45,7 +51,7 @@ fn look_at_name<A: Allocator + Copy>(
         (misspelled_at place text.now)) }
 {
     let name = behind_call(text);
-    let len = near_len(name);
+    let len = misspelled_len(name);
     if len == 0 {
         return Ok(());
     }
@@ -62,36 +68,59 @@ fn behind_call(text: &[u8]) -> &[u8]
     }
 }
 
-// How many characters a name has at the head of a text that no function has, and that is nearly that of one: its two
-// letters are turned round, or it has one letter more. 0 if there is no such name.
-fn near_len(text: &[u8]) -> usize
-    ensures value { result ≡ near_len text.now }
+// How many letters a name has at the head of a text, if it is misspelled and a comma or a right parenthesis ends it. 0
+// if there is no such name.
+fn misspelled_len(text: &[u8]) -> usize
+    ensures value { result ≡ misspelled_len text.now }
     ensures within { result ≤ length text.now }
 {
-    match *text {
-        [first, second, end, ..] if ends_name(end) && is_turned(first, second) => 2,
-        [first, second, third, ref rest @ ..] => longer_len(first, second, third, rest),
-        _ => 0,
+    let len = letters_len(text);
+    if ends_name(&text[len..]) && is_misspelled(&text[..len]) {
+        len
+    } else {
+        0
     }
 }
 
-// How many characters a name has that begins with these three, if the text ends it then, and it is nearly the name of
-// a function; else 0.
-fn longer_len(first: u8, second: u8, third: u8, text: &[u8]) -> usize
-    ensures value { result ≡ longer_len first second third text.now }
-    ensures within { result ≤ 3 }
+// How many letters stand at the head of a text.
+fn letters_len(text: &[u8]) -> usize
+    ensures value { result ≡ prefix_len is_ascii_alphabetic text.now }
+    ensures within { result ≤ length text.now }
 {
-    match *text {
-        [end, ..] if ends_name(end) && has_one_more(first, second, third) => 3,
-        _ => 0,
+    for (place, character) in text.iter().enumerate() {
+        if !character.is_ascii_alphabetic() {
+            return place;
+        }
+    }
+    text.len()
+}
+
+// Whether a text begins with a character that ends the name of a call: a comma or a right parenthesis.
+fn ends_name(text: &[u8]) -> bool
+    ensures { result ≡ ends_name text.now }
+{
+    matches!(text, [b',' | b')', ..])
+}
+
+// Whether no function has a name of these letters, and one was probably meant: the two letters of its name are turned
+// round; one letter is added to it; or there are three letters or more, and not all are capitals. One letter, two
+// others or more capitals may well stand for a gap.
+fn is_misspelled(letters: &[u8]) -> bool
+    ensures { result ≡ is_misspelled letters.now }
+{
+    match *letters {
+        [first, second] => is_turned(first, second),
+        [first, second, third] => has_one_more(first, second, third) || has_small(letters),
+        [_, _, _, _, ..] => has_small(letters),
+        _ => false,
     }
 }
 
-// Whether a character ends the name of a call.
-fn ends_name(character: u8) -> bool
-    ensures { result ≡ ends_name character }
+// Whether a small letter is among these.
+fn has_small(letters: &[u8]) -> bool
+    ensures { result ≡ has_small letters.now }
 {
-    character == b',' || character == b')'
+    letters.iter().any(|letter| letter.is_ascii_lowercase())
 }
 
 // Whether two characters, in this order, are the name of no function, and in the other order that of one.
@@ -102,14 +131,11 @@ fn is_turned(first: u8, second: u8) -> bool
         && is_function(second, first)
 }
 
-// Whether three characters are letters, and two of them, in their order, are the name of a function.
+// Whether two of three letters, in their order, are the name of a function.
 fn has_one_more(first: u8, second: u8, third: u8) -> bool
     ensures { result ≡ has_one_more first second third }
 {
-    first.is_ascii_alphabetic()
-        && second.is_ascii_alphabetic()
-        && third.is_ascii_alphabetic()
-        && (is_function(second, third) || is_function(first, third) || is_function(first, second))
+    is_function(second, third) || is_function(first, third) || is_function(first, second)
 }
 
 // Whether two characters are the name of a function.

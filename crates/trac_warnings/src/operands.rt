@@ -1,13 +1,16 @@
 //! What is suspicious in the texts that a call computes with or compares.
-ghost use Rattle.std.specs.Prelude.{◌≡◌, true, OnOk};
+ghost use Rattle.std.specs.Prelude.{◌≡◌, ◌+◌, true, List, [], MatchOption, None, OnOk, drop};
 ghost use Rattle.trac_space.specs.Texts.{text_of_cells};
 ghost use Rattle.std.specs.Char.{is_ascii_digit};
-ghost use Rattle.std.specs.List.{list_all};
+ghost use Rattle.std.specs.List.{list_all, position_or_len};
+ghost use Rattle.trac_language.specs.Form.{Form};
+ghost use Rattle.trac_space.specs.Cells.{is_comma};
+ghost use Rattle.trac_events.specs.Calls.{argument_of, first_argument};
 ghost use Rattle.trac_warnings.specs.Operands.{operand_among, suspicion_of_number, suspicion_of_operand};
-ghost use Rattle.trac_warnings.specs.Operands.{adds, are_thousands, behind_digit, is_number, takes_numbers};
+ghost use Rattle.trac_warnings.specs.Operands.{adds, are_digits, are_thousands, behind_digit, is_number, takes_numbers};
 ghost use Rattle.trac_warnings.specs.Performed.{Warns, comma_warnings, compares_texts, differ_by_blanks};
 ghost use Rattle.trac_warnings.specs.Performed.{has_odd_operand, operand_warnings, parts_number, side_warnings};
-ghost use Rattle.trac_warnings.specs.Performed.{suspicion_of_sides};
+ghost use Rattle.trac_warnings.specs.Performed.{suspicion_of_sides, use_warnings};
 ghost use Rattle.trac_warnings.specs.Watched.{Kept};
 
 use crate::blanks::trimmed;
@@ -16,7 +19,7 @@ use crate::performed::{Ending, warn};
 use crate::warning::{Suspicion, Warning};
 use std::alloc::{AllocError, Allocator};
 use trac_core::Machine;
-use trac_events::{argument, find_form, is_same};
+use trac_events::{argument, find_form, from_argument, is_same};
 use trac_language::{Arith, Function};
 use trac_space::{Cell, character_of};
 
@@ -65,6 +68,46 @@ fn look_at_numbers<A: Allocator + Copy>(
         Some(suspicion) => warn(warnings, alloc, suspicion, ending.begin, second),
         None => Ok(()),
     }
+}
+
+/// Whether a call of this function takes two numbers of digits alone, and nothing that could be another one. Then
+/// nothing is suspicious in the arguments that it uses.
+pub(crate) fn has_plain_numbers(function: Function, ending: &Ending) -> bool
+    ensures { result ≡ true → (forms : List Form) → use_warnings function forms ending.now ≡ [] }
+{
+    takes_numbers(function) && are_plain_numbers(function, ending.arguments)
+}
+
+// Whether the first two arguments have no other characters than digits, and a function that adds has no third one.
+fn are_plain_numbers(function: Function, arguments: &[Cell]) -> bool
+    ensures one { result ≡ true → suspicion_of_operand (argument_of arguments.now 1) ≡ None }
+    ensures other { result ≡ true → suspicion_of_operand (argument_of arguments.now 2) ≡ None }
+    ensures more { result ≡ true → adds function ≡ true → argument_of arguments.now 3 ≡ [] }
+{
+    let Some(second) = behind_digits(from_argument(arguments, 1)) else {
+        return false;
+    };
+    let Some(third) = behind_digits(second) else {
+        return false;
+    };
+    third.is_empty() || !adds(function)
+}
+
+// The cells behind the first comma mark; none if there is no comma mark. None if another cell than a digit stands
+// before it.
+fn behind_digits(cells: &[Cell]) -> Option<&[Cell]>
+    ensures { MatchOption result (Unit {0}) (λ behind. (are_digits (first_argument cells.now) ≡ true)
+        × (behind.now ≡ drop (position_or_len is_comma cells.now + 1) cells.now)) }
+{
+    for (place, cell) in cells.iter().enumerate() {
+        if matches!(cell, Cell::Comma) {
+            return Some(&cells[place + 1..]);
+        }
+        if !character_of(cell).is_ascii_digit() {
+            return None;
+        }
+    }
+    Some(&[])
 }
 
 /// Whether something is suspicious in one of the first two arguments, which are taken for numbers.
@@ -133,7 +176,7 @@ fn suspicion_behind_digit(rest: &[Cell]) -> Option<Suspicion>
 
 // Whether all cells are digits.
 fn are_digits(cells: &[Cell]) -> bool
-    ensures { result ≡ list_all is_ascii_digit (text_of_cells cells.now) }
+    ensures { result ≡ are_digits cells.now }
 {
     for cell in cells {
         if !character_of(cell).is_ascii_digit() {

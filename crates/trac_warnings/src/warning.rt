@@ -24,7 +24,7 @@ pub enum Suspicion {
     NoNumberSign,
     /// A call whose name is no function.
     NoFunction,
-    /// A call in the script that was never performed, whose name is no function and nearly that of one.
+    /// A call in the script that was never performed, whose name is no function and probably should be one.
     Misspelled,
     /// A call whose name is no function, and is that of a form.
     FormAsFunction,

@@ -53,6 +53,17 @@ struct DefinitionSite {
     calls: usize,
 }
 
+// Which argument of a call can be its value.
+#[derive(Clone, Copy)]
+enum Choice {
+    // None.
+    Nothing,
+    // The argument of this number, its default value.
+    Default(u32),
+    // The third or the fourth, one of which is the value.
+    OfTwo,
+}
+
 /// Finds what is suspicious in a run. Show it the machine before and after each step; its warnings
 /// are then those of that step. It keeps the origins of the active string, the open calls, and the
 /// names of the forms that were defined.
@@ -78,6 +89,8 @@ pub struct Watch<A: Allocator> {
     arguments: Vec<Cell, A>,
     // How many comma marks stand among these arguments.
     given: usize,
+    // Which of them can be the value.
+    choice: Choice,
     value: Origin,
     // How long the neutral string was before the step.
     neutral: usize,
@@ -101,6 +114,7 @@ impl<A: Allocator + Copy> Watch<A> {
             written: BTreeMap::new(alloc),
             arguments: Vec::new(alloc),
             given: 0,
+            choice: Choice::Nothing,
             value: Origin::in_input(0),
             neutral: 0,
         }
@@ -202,7 +216,7 @@ impl<A: Allocator + Copy> Watch<A> {
 
     // Looks at what a step did, by its rule, and left in the strings. The first character of the active string was
     // written at `origin` before it.
-    #[inline(never)]
+    #[inline(always)]
     fn warn_of_rule(
         &mut self,
         before: &Before,

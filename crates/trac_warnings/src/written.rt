@@ -6,7 +6,6 @@ ghost use Rattle.trac_warnings.specs.Script.{behind_digits, curly_end, is_number
 ghost use Rattle.trac_warnings.specs.Script.{other_meta};
 ghost use Rattle.trac_warnings.specs.Script.{script_warnings, spelled, spelled_at, reported_behind};
 ghost use Rattle.trac_warnings.specs.Spelling.{spelling_of};
-ghost use Rattle.trac_warnings.specs.Unmarked.{is_unmarked};
 ghost use Rattle.trac_warnings.specs.Watched.{Adds, Kept};
 
 use crate::origin::Origin;
@@ -15,6 +14,7 @@ use crate::strings::begins_with_mark;
 use crate::warning::{Suspicion, Warning};
 use std::alloc::{AllocError, Allocator};
 use trac_core::is_layout;
+use trac_events::{LineEnd, Mark, count_before};
 
 // From this many numbered lines on there is a warning.
 const FEW_LINES: usize = 3;
@@ -97,13 +97,13 @@ fn look_at_lines<A: Allocator + Copy>(
 {
     let mut first = None;
     let mut count: usize = 0;
-    let mut is_head = true;
-    for place in 0..input.len() {
-        if is_head && is_numbered(&input[place..]) {
+    let mut place: usize = 0;
+    while place < input.len() {
+        if is_numbered(&input[place..]) {
             first = first.or(Some(place));
             count = count.saturating_add(1);
         }
-        is_head = input[place] == b'\n';
+        place += count_before(&LineEnd, &input[place..]) + 1;
     }
     match first {
         Some(place) if count >= FEW_LINES => {
@@ -147,8 +147,9 @@ fn look_at_spelling<A: Allocator + Copy>(
 {
     let mut is_reported = false;
     let mut is_behind_sign = false;
-    for place in 0..input.len() {
-        is_reported = look_at_place(
+    let mut place = count_before(&Mark, input);
+    while place < input.len() {
+        is_reported = look_at_mark(
             warnings,
             alloc,
             place,
@@ -156,7 +157,9 @@ fn look_at_spelling<A: Allocator + Copy>(
             is_reported,
             is_behind_sign,
         )?;
-        is_behind_sign = input[place] == b'#';
+        let unmarked = count_before(&Mark, &input[place + 1..]);
+        is_behind_sign = (unmarked == 0) & (input[place] == b'#');
+        place += unmarked + 1;
     }
     Ok(())
 }
@@ -164,38 +167,6 @@ fn look_at_spelling<A: Allocator + Copy>(
 // Looks at the head of a text at a place of the input. `is_reported` says whether the next parenthesis was warned
 // of, and `is_behind_sign` whether a number sign stands before the text. Answers whether the next parenthesis
 // behind the head was warned of.
-#[tactic(auto, using(crate::proofs::Keeping::keeping))]
-fn look_at_place<A: Allocator + Copy>(
-    warnings: &mut Vec<Warning<A>, A>,
-    alloc: A,
-    place: usize,
-    text: &[u8],
-    is_reported: bool,
-    is_behind_sign: bool,
-) -> Result<bool, AllocError>
-    ensures kept { Kept warnings.old.items warnings.new.items }
-    ensures said { OnOk result (Warns warnings.old.items warnings.new.items
-        (spelled_at (spelling_of text.now) is_reported is_behind_sign place text.now)) }
-    ensures reported { IfOk result (λ reported. reported ≡
-        reported_behind (spelling_of text.now) is_reported (get_or text.now 0 0)) }
-{
-    if is_unmarked(text) {
-        return Ok(is_reported);
-    }
-    look_at_mark(warnings, alloc, place, text, is_reported, is_behind_sign)
-}
-
-// Whether the head of a text is no colon, number sign or left parenthesis.
-fn is_unmarked(text: &[u8]) -> bool
-    ensures { result ≡ is_unmarked text.now }
-{
-    match *text {
-        [first, ..] => first != b':' && first != b'#' && first != b'(',
-        [] => true,
-    }
-}
-
-// Looks at the head of a text as `look_at_place` does, whatever the head is.
 #[inline(never)]
 #[tactic(auto, using(crate::proofs::Keeping::keeping))]
 fn look_at_mark<A: Allocator + Copy>(

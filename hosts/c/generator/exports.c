@@ -27,6 +27,15 @@ static trac_report trac_engine_check(void *block, size_t cells, uint64_t steps, 
     return told(&report);
 }
 
+static trac_report trac_engine_check_zeroed(void *block, size_t cells, uint64_t steps, const uint8_t *script,
+                                            size_t script_len, void *memory, size_t units, uint8_t *to,
+                                            size_t to_len) {
+    struct engine_report report;
+    engine_check_zeroed(address_of(&report), address_of(block), cells, steps,
+                        address_of(script), script_len, address_of(memory), units, address_of(to), to_len);
+    return told(&report);
+}
+
 /* Puts the numbers of a trace from this machine's order of bytes into the engine's, or back. */
 static void turn_numbers(trac_trace *of) {
     uint64_t *const long_ones[] = {&of->from,  &of->to,   &of->shown,  &of->lines,

@@ -4,7 +4,7 @@ from webs import each
 
 NOWHERE = frozenset()
 # So many steps may stand before a return in the place of a branch to them, and so great what that gives.
-SHORT, LEAST = 20, 8
+SHORT, LEAST = 40, 12
 
 
 class Loop(Statement):

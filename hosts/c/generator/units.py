@@ -9,8 +9,8 @@ from itertools import groupby
 
 OF_RUNS, OF_CHECK = 4, 3
 SHARED = 1
-# A function of twice the lines takes two times and a half as long: 2 to this power. Measured with gcc 12.
-LONG = 1.35
+# A function of twice the lines takes more than two times and a half as long: 2 to this power. Measured with gcc 12.
+LONG = 1.4
 # The functions of trac.h and the tables, which stand in the first unit, as such a time.
 API = 52000
 

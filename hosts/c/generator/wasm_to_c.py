@@ -23,7 +23,7 @@ from webs import count_reads, folded, split, without_blocks
 SHORT, MIDDLE, FEW = 80, 200, 3
 # The exports that C may leave out, with what they alone need, or have alone. They have maps: a tree of them is taken
 # apart by calls that go in a circle, one for each level.
-CHECK = {'$trac_engine_check', '$trac_engine_trace_step'}
+CHECK = {'$trac_engine_check', '$trac_engine_check_zeroed', '$trac_engine_trace_step'}
 TREE = 'btree::node::Node::destroy'
 # The exports that only the module for browsers has.
 OF_BROWSERS = {'$trac_engine_value_source'}

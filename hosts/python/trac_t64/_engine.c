@@ -696,13 +696,13 @@ static PyObject *machine_show(machine_object *self, PyObject *words) {
 
 /* ---- What is suspicious in a script. */
 
-/* The initial number of bytes for the lists of a check, and for its lines. */
-enum { LEAST_LISTS = 1 << 20, LEAST_LINES = 1 << 16 };
+/* The initial number of bytes for the lists of a check, and for its lines; and how many more there are for each byte of
+ * the script, up to MOST_COUNTED. */
+enum { LEAST_LISTS = 1 << 20, LEAST_LINES = 1 << 16, LISTS_A_BYTE = 128, LINES_A_BYTE = 16, MOST_COUNTED = 1 << 23 };
 
 /* The input and the result of a check. */
 typedef struct {
     Py_buffer script;
-    trac_cell *block;
     size_t cells;
     uint64_t steps;
     void *lists, *lines;
@@ -716,13 +716,24 @@ static int remade(void **place, size_t length) {
     return *place != NULL;
 }
 
+/* Checks in a block of zeros, so that only the cells that the run uses are written. Gives 0 if there is no memory for
+ * the block. */
+static int check_in_zeros(checking *of, size_t lists, size_t lines) {
+    trac_cell *const block = (trac_cell *)calloc(of->cells, sizeof *block);
+    if (block)
+        of->report = trac_check_zeroed(block, of->cells, of->steps, of->script.buf, (size_t)of->script.len, of->lists,
+                                       lists, of->lines, lines);
+    free(block);
+    return block != NULL;
+}
+
 /* Checks with memory for the given number of bytes of lists and of lines, or for more if necessary. Gives 0 if there is
  * no memory. */
 static int checked(checking *of, size_t lists, size_t lines) {
     int is_made = remade(&of->lists, lists) && remade(&of->lines, lines);
     while (is_made) {
-        of->report = trac_check(of->block, of->cells, of->steps, of->script.buf, (size_t)of->script.len, of->lists,
-                                lists, of->lines, lines);
+        if (!check_in_zeros(of, lists, lines))
+            return 0;
         if (of->report.fate == TRAC_NO_MEMORY)
             is_made = lists <= SIZE_MAX / 4 && remade(&of->lists, lists *= 4);
         else if (of->report.wanted > of->report.written)
@@ -744,16 +755,15 @@ static PyObject *module_check(PyObject *module, PyObject *args) {
         return NULL;
     of.cells = (size_t)cells;
     of.steps = steps;
+    const size_t length = (size_t)of.script.len, counted = length < MOST_COUNTED ? length : MOST_COUNTED;
     Py_BEGIN_ALLOW_THREADS;
-    of.block = (trac_cell *)malloc(of.cells * sizeof(trac_cell));
-    is_made = of.block && checked(&of, LEAST_LISTS, LEAST_LINES);
+    is_made = checked(&of, LEAST_LISTS + LISTS_A_BYTE * counted, LEAST_LINES + LINES_A_BYTE * counted);
     Py_END_ALLOW_THREADS;
     if (is_made)
         result = Py_BuildValue("sKky#", trac_fate_name(of.report.fate), (unsigned long long)of.report.steps,
                                (unsigned long)of.report.peak, of.lines, (Py_ssize_t)of.report.written);
     else
         PyErr_NoMemory();
-    free(of.block);
     free(of.lists);
     free(of.lines);
     PyBuffer_Release(&of.script);

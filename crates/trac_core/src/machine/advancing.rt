@@ -4,17 +4,16 @@ ghost use Rattle.trac_language.specs.State.{Memory};
 ghost use Rattle.trac_forms.specs.Contents.{IsSound};
 ghost use Rattle.trac_functions.specs.Calls.{KeepsRoom};
 ghost use Rattle.trac_core.specs.Machine.{KeepsLimits, MachineState, counted};
-ghost use Rattle.trac_core.specs.StepsInRow.{turning, HasNoCommaFrom};
+ghost use Rattle.trac_core.specs.StepsInRow.{turning};
 ghost use Rattle.trac_core.specs.Advancing.{Advanced, advanced_to};
 ghost use Rattle.trac_core.specs.Driving.{Driven, standing};
 ghost use Rattle.trac_core.specs.Session.{next_function};
 
 use super::{Counters, Machine};
 use crate::idling::{IDLING_STEPS, idling_need, may_begin_idling};
+use crate::long_runs::LongRuns;
 use crate::outcome::StepOutcome;
 use crate::performer::{Alone, Performer};
-use crate::read_in_place::STRING_FROM;
-use crate::run_hints::RunHints;
 use crate::scan::{NextAction, scan_steps};
 use trac_forms::Work;
 use trac_language::{Fate, Function};
@@ -33,8 +32,6 @@ pub struct Progress {
 #[derive(Clone, Copy)]
 pub(super) struct Advance {
     progress: Progress,
-    /// A place of the neutral string from which on no comma mark stands.
-    no_comma_from: u32,
     /// The steps and the peak that are counted then, and how the run ended, if it did.
     steps: u64,
     peak: u32,
@@ -100,11 +97,9 @@ impl<'a> Machine<'a> {
             steps: self.steps,
             peak: self.peak,
         };
-        let no_comma_from = self.no_comma_from;
         let to = go_on(
             &mut self.work,
             &mut self.meta,
-            no_comma_from,
             at,
             most,
             performer,
@@ -114,20 +109,17 @@ impl<'a> Machine<'a> {
         self.steps = to.steps;
         self.peak = to.peak;
         self.fate = to.fate;
-        self.no_comma_from = to.no_comma_from;
         to.progress
     }
 }
 
 /// Makes at most `most` steps of a run that isn't over and has these counters. They are single values
-/// here, and no part of a machine, so that they need not stand in memory. From place `no_comma_from` on no
-/// comma mark stands in the neutral string. `need` has the cells of the first step since a call: those that perform
-/// none need no more than it does.
+/// here, and no part of a machine, so that they need not stand in memory. `need` has the cells of the first step
+/// since a call: those that perform none need no more than it does.
 #[inline(never)]
 fn go_on<I, O, P: Performer<I, O>>(
     work: &mut Work,
     meta: &mut u8,
-    no_comma_from: u32,
     at: Counters,
     most: u64,
     performer: P,
@@ -135,7 +127,6 @@ fn go_on<I, O, P: Performer<I, O>>(
     sink: &mut O,
 ) -> Advance
     requires sound { IsSound work.old }
-    requires no_comma_from { HasNoCommaFrom no_comma_from work.old.neutral }
     requires steps { at.steps ≤ at.allowance }
     requires peak { at.peak ≤ work.old.room }
     requires ready { P.ready source.old sink.old }
@@ -147,7 +138,6 @@ fn go_on<I, O, P: Performer<I, O>>(
     ensures next { (stops : Bool) → result.progress.done < most →
         result.progress.next ≡ next_function (advanced_to stops work.new meta.new at result) }
     ensures counts { result.fate ≡ None → result.steps ≡ at.steps + result.progress.done }
-    ensures no_comma_from { HasNoCommaFrom result.no_comma_from work.new.neutral }
     ensures steps { result.steps ≤ at.allowance }
     ensures peak { result.peak ≤ work.old.room }
     ensures keeps { KeepsRoom work.old work.new }
@@ -156,9 +146,9 @@ fn go_on<I, O, P: Performer<I, O>>(
     let mut left = reach;
     let mut peak = at.peak;
     let mut need = work.used();
-    let mut hints = RunHints::new(no_comma_from);
+    let mut long_runs = LongRuns::none();
     while left > 0 {
-        match scan_steps(work, left, &mut hints) {
+        match scan_steps(work, left, &mut long_runs) {
             Ok(done) => {
                 left -= done;
                 peak = peak.max(need);
@@ -166,10 +156,10 @@ fn go_on<I, O, P: Performer<I, O>>(
             Err(NextAction::Idling) if may_begin_idling(work, left) => {
                 peak = peak.max(idling_need(work));
                 left -= IDLING_STEPS;
-                hints = RunHints::new(STRING_FROM);
+                long_runs = LongRuns::none();
                 if let Some(read) = performer.idle(work, &mut left, *meta, source, &*sink) {
                     if let Some(fate) = read.fate {
-                        return over(work, at, reach - left, peak, read, fate);
+                        return over(at, reach - left, peak, read, fate);
                     }
                     peak = peak.max(read.need);
                 }
@@ -178,28 +168,27 @@ fn go_on<I, O, P: Performer<I, O>>(
             Err(action) => {
                 let last = match performer.perform(work, action, meta, source, sink) {
                     Ok(last) => last,
-                    Err(function) => return going(reach - left, function, hints, at.steps, peak),
+                    Err(function) => return going(reach - left, function, at.steps, peak),
                 };
                 if let Some(fate) = last.fate {
-                    return over(work, at, reach - left, peak, last, fate);
+                    return over(at, reach - left, peak, last, fate);
                 }
                 left -= 1;
                 peak = peak.max(last.need);
                 need = work.used();
-                hints = RunHints::new(work.neutral_len());
+                long_runs = LongRuns::none();
             }
         }
     }
-    going(reach, None, hints, at.steps, peak)
+    going(reach, None, at.steps, peak)
 }
 
 /// The advance of `done` steps, after which the peak is `peak` and a step with this outcome ends the run with this
 /// fate. `at` has the counters before all of them.
-fn over(work: &Work, at: Counters, done: u64, peak: u32, last: StepOutcome, fate: Fate) -> Advance
+fn over(at: Counters, done: u64, peak: u32, last: StepOutcome, fate: Fate) -> Advance
     requires allowed { at.steps + done < at.allowance }
     requires fate { last.fate ≡ Some fate }
     ensures progress { result.progress ≡ record { done = done; next = None } }
-    ensures no_comma_from { result.no_comma_from ≡ length work.now.neutral }
     ensures counts { (m : MachineState) (memory : Memory) → m.steps ≡ at.steps + done → m.peak ≡ peak →
         let after = counted m memory last.need (Some fate) in
         (result.steps ≡ after.steps) × (result.peak ≡ after.peak) }
@@ -215,7 +204,6 @@ fn over(work: &Work, at: Counters, done: u64, peak: u32, last: StepOutcome, fate
     let counters = before.after(last);
     Advance {
         progress: Progress { done, next: None },
-        no_comma_from: work.neutral_len(),
         steps: counters.steps,
         peak: counters.peak,
         fate: Some(fate),
@@ -224,11 +212,10 @@ fn over(work: &Work, at: Counters, done: u64, peak: u32, last: StepOutcome, fate
 
 /// The advance of `done` steps after `steps` others, with this peak, and what the next one performs; the run goes
 /// on.
-fn going(done: u64, next: Option<Function>, hints: RunHints, steps: u64, peak: u32) -> Advance
+fn going(done: u64, next: Option<Function>, steps: u64, peak: u32) -> Advance
     requires { steps + done < 2 ^ 64 }
     ensures { result ≡ record {
       progress = record { done = done; next = next };
-      no_comma_from = hints.no_comma_from;
       steps = steps + done;
       peak = peak;
       fate = None;
@@ -236,7 +223,6 @@ fn going(done: u64, next: Option<Function>, hints: RunHints, steps: u64, peak: u
 {
     Advance {
         progress: Progress { done, next },
-        no_comma_from: hints.no_comma_from,
         steps: steps + done,
         peak,
         fate: None,

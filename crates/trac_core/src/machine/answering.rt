@@ -13,7 +13,6 @@ ghost use Rattle.trac_core.specs.StepOutcomes.{function_at, delivered};
 ghost use Rattle.trac_core.specs.Answering.{Answered, IsAnswerable, asks_next, is_forced, mode_by};
 ghost use Rattle.trac_core.specs.Machine.{Answers, KeepsLimits, KeepsSettings, moment};
 ghost use Rattle.trac_core.specs.OpenCalls.{calls_unknown};
-ghost use Rattle.trac_core.specs.StepsInRow.{HasNoCommaFrom};
 
 use super::Machine;
 use super::changing::Refused;
@@ -58,7 +57,7 @@ impl<'a> Machine<'a> {
         if self.steps == self.allowance {
             return false;
         }
-        unknown_call(&self.work, self.no_comma_from).is_some()
+        unknown_call(&self.work).is_some()
     }
 
     /// Makes the next step, which performs a call whose name is no function, and gives the call this value
@@ -86,7 +85,7 @@ impl<'a> Machine<'a> {
         if self.fate.is_some() {
             return Err(Refused);
         }
-        let Some(place) = unknown_call(&self.work, self.no_comma_from) else {
+        let Some(place) = unknown_call(&self.work) else {
             return Err(Refused);
         };
         if self.steps == self.allowance {
@@ -94,15 +93,13 @@ impl<'a> Machine<'a> {
             return Ok(self.fate);
         }
         let outcome = end_answered(&mut self.work, place, value, how);
-        self.no_comma_from = self.work.neutral_len();
         Ok(self.count(outcome))
     }
 }
 
 /// Where the mark stands of the call of no function that a step over these contents performs. None if it performs
-/// no call, or one of a function. From place `no_comma_from` on no comma mark stands in the neutral string.
-fn unknown_call(work: &Work, no_comma_from: u32) -> Option<u32>
-    requires { HasNoCommaFrom no_comma_from work.now.neutral }
+/// no call, or one of a function.
+fn unknown_call(work: &Work) -> Option<u32>
     ensures call { MatchOption result
         ((meta : ℕ) → calls_unknown (memory_of meta work.now) ≡ false)
         (λ place. (slice_get (text_of_cells work.now.active) 0 ≡ Some 41)
@@ -112,7 +109,7 @@ fn unknown_call(work: &Work, no_comma_from: u32) -> Option<u32>
     let Some(place) = closed_call(work) else {
         return None;
     };
-    if named_at(work, place, no_comma_from).0.is_some() {
+    if named_at(work, place).0.is_some() {
         return None;
     }
     Some(place)

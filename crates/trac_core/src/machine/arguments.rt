@@ -4,7 +4,6 @@ ghost use Rattle.trac_space.specs.Texts.{IsByte, text_of_cells};
 ghost use Rattle.trac_functions.specs.Calls.{AreArguments, texts};
 ghost use Rattle.trac_functions.specs.Flat.{memory_of};
 ghost use Rattle.trac_core.specs.OpenCalls.{next_texts, performed_texts};
-ghost use Rattle.trac_core.specs.StepsInRow.{HasNoCommaFrom};
 
 use super::Machine;
 use super::closing::{arguments_at, closed_call};
@@ -19,7 +18,7 @@ impl<'a> Machine<'a> {
         ensures { result ≡ length (next_texts self.now) }
     {
         if self.fate.is_none() && self.steps < self.allowance {
-            performed_count(&self.work, self.no_comma_from)
+            performed_count(&self.work)
         } else {
             0
         }
@@ -35,7 +34,7 @@ impl<'a> Machine<'a> {
         ensures bytes { MatchOption result (Unit {0}) (λ cells. All IsByte cells.now) }
     {
         if self.fate.is_none() && self.steps < self.allowance {
-            performed_argument(&self.work, self.no_comma_from, which)
+            performed_argument(&self.work, which)
         } else {
             None
         }
@@ -43,21 +42,18 @@ impl<'a> Machine<'a> {
 }
 
 /// How many arguments the call has that a step over these contents performs, the name counted; 0 if it performs
-/// none. From place `no_comma_from` on no comma mark stands in the neutral string.
-fn performed_count(work: &Work, no_comma_from: u32) -> u32
-    requires { HasNoCommaFrom no_comma_from work.now.neutral }
+/// none.
+fn performed_count(work: &Work) -> u32
     ensures { (meta : ℕ) → result ≡ length (performed_texts (memory_of meta work.now)) }
 {
     match closed_call(work) {
         None => 0,
-        Some(place) => arguments_left(work, arguments_at(work, place, no_comma_from)),
+        Some(place) => arguments_left(work, arguments_at(work, place)),
     }
 }
 
-/// An argument of the call that a step over these contents performs, the name being argument 0. From place
-/// `no_comma_from` on no comma mark stands in the neutral string.
-fn performed_argument<'w>(work: &'w Work, no_comma_from: u32, which: u32) -> Option<&'w [Cell]>
-    requires { HasNoCommaFrom no_comma_from work.now.neutral }
+/// An argument of the call that a step over these contents performs, the name being argument 0.
+fn performed_argument<'w>(work: &'w Work, which: u32) -> Option<&'w [Cell]>
     ensures argument { (meta : ℕ) → let texts = performed_texts (memory_of meta work.now) in MatchOption result
         (slice_get texts which ≡ None)
         (λ cells. slice_get texts which ≡ Some (text_of_cells cells.now)) }
@@ -66,7 +62,7 @@ fn performed_argument<'w>(work: &'w Work, no_comma_from: u32, which: u32) -> Opt
     let Some(place) = closed_call(work) else {
         return None;
     };
-    let mut arguments = arguments_at(work, place, no_comma_from);
+    let mut arguments = arguments_at(work, place);
     for _before in 0..which {
         if arguments.is_empty() {
             return None;

@@ -7,7 +7,6 @@ ghost use Rattle.trac_functions.specs.Flat.{memory_of, arguments_at};
 ghost use Rattle.trac_functions.specs.Calls.{AreArguments, texts};
 ghost use Rattle.trac_core.specs.StepOutcomes.{function_at};
 ghost use Rattle.trac_core.specs.OpenCalls.{performed_call};
-ghost use Rattle.trac_core.specs.StepsInRow.{HasNoCommaFrom};
 
 use crate::scan::is_at;
 use trac_forms::Work;
@@ -33,11 +32,9 @@ pub(crate) fn closed_call(work: &Work) -> Option<u32>
     }
 }
 
-/// The arguments of the innermost call, whose mark stands at the place, the name first. From place
-/// `no_comma_from` on no comma mark stands in the neutral string.
-pub(super) fn arguments_at(work: &Work, place: u32, no_comma_from: u32) -> Arguments
+/// The arguments of the innermost call, whose mark stands at the place, the name first.
+pub(super) fn arguments_at(work: &Work, place: u32) -> Arguments
     requires innermost { IsLastCall work.now.neutral place }
-    requires no_comma_from { HasNoCommaFrom no_comma_from work.now.neutral }
     ensures arguments { AreArguments work.now result }
     ensures texts { texts work.now result ≡ arguments_at work.now.neutral place }
     ensures some { result.from ≤ result.end }
@@ -46,21 +43,19 @@ pub(super) fn arguments_at(work: &Work, place: u32, no_comma_from: u32) -> Argum
     Arguments {
         from: place + 1,
         end,
-        no_comma_from,
         scanned: false,
     }
 }
 
 /// The function that the innermost call names, whose mark stands at the place, and the arguments
-/// behind the name. From place `no_comma_from` on no comma mark stands in the neutral string.
-pub(super) fn named_at(work: &Work, place: u32, no_comma_from: u32) -> (Option<Function>, Arguments)
+/// behind the name.
+pub(super) fn named_at(work: &Work, place: u32) -> (Option<Function>, Arguments)
     requires innermost { IsLastCall work.now.neutral place }
-    requires no_comma_from { HasNoCommaFrom no_comma_from work.now.neutral }
     ensures function { result.0 ≡ function_at work.now.neutral place }
     ensures arguments { AreArguments work.now result.1 }
     ensures behind { texts work.now result.1 ≡ drop 1 (arguments_at work.now.neutral place) }
 {
-    let mut arguments = arguments_at(work, place, no_comma_from);
+    let mut arguments = arguments_at(work, place);
     let name = arguments.next(work);
     (function_named(text(work, name)), arguments)
 }

@@ -15,7 +15,6 @@ ghost use Rattle.trac_core.specs.Machine.{GoesOn, KeepsLimits, KeepsSettings, en
 ghost use Rattle.trac_core.specs.Display.{display_named};
 ghost use Rattle.trac_core.specs.Performed.{performs, prints_output};
 ghost use Rattle.trac_core.specs.Session.{next_function, next_printed, step_prints, call_prints};
-ghost use Rattle.trac_core.specs.StepsInRow.{HasNoCommaFrom};
 
 use super::Machine;
 use super::changing::Refused;
@@ -23,7 +22,6 @@ use super::closing::{closed_call, named_at};
 use crate::delivery::finish_call;
 use crate::display::display_len;
 use crate::outcome::StepOutcome;
-use crate::scan::InnermostCall;
 use trac_forms::Work;
 use trac_functions::arguments::CallResult;
 use trac_language::Function;
@@ -43,7 +41,7 @@ impl<'a> Machine<'a> {
         ensures same { self.new ≡ self.old }
     {
         if prints(function) {
-            printed_past(&mut self.work, self.no_comma_from, function, free)
+            printed_past(&mut self.work, function, free)
         } else {
             None
         }
@@ -69,19 +67,17 @@ impl<'a> Machine<'a> {
         if !prints(function) {
             return Err(Refused);
         }
-        let Some(outcome) = skip_printing(&mut self.work, self.no_comma_from) else {
+        let Some(outcome) = skip_printing(&mut self.work) else {
             return Err(Refused);
         };
-        self.no_comma_from = self.work.neutral_len();
         self.count(outcome);
         Ok(())
     }
 }
 
 /// Makes a step that performs a call of a function that prints, and drops what it prints. None, with nothing changed,
-/// where it prints nothing. From place `no_comma_from` on no comma mark stands in the neutral string.
-fn skip_printing(work: &mut Work, no_comma_from: u32) -> Option<StepOutcome>
-    requires no_comma_from { HasNoCommaFrom no_comma_from work.old.neutral }
+/// where it prints nothing.
+fn skip_printing(work: &mut Work) -> Option<StepOutcome>
     requires prints { (meta : ℕ) → prints_output (performs (memory_of meta work.old)) ≡ true }
     ensures skipped { MatchOption result
         (((meta : ℕ) (input : Input) → step_prints (memory_of meta work.old) input ≡ [])
@@ -94,7 +90,7 @@ fn skip_printing(work: &mut Work, no_comma_from: u32) -> Option<StepOutcome>
         (written ++ step_prints (memory_of meta work.old) (ending source.bytes))))))) }
     ensures keeps { KeepsRoom work.old work.new }
 {
-    if printed_len(work, no_comma_from) == 0 {
+    if printed_len(work) == 0 {
         return None;
     }
     let Some(place) = closed_call(work) else {
@@ -136,14 +132,8 @@ fn prints(function: Option<Function>) -> bool
 }
 
 /// How many bytes a step over these contents prints, which performs this function, where they are
-/// more than `free`. From place `no_comma_from` on no comma mark stands in the neutral string.
-fn printed_past(
-    work: &mut Work,
-    no_comma_from: u32,
-    function: Option<Function>,
-    free: u64,
-) -> Option<u32>
-    requires no_comma_from { HasNoCommaFrom no_comma_from work.old.neutral }
+/// more than `free`.
+fn printed_past(work: &mut Work, function: Option<Function>, free: u64) -> Option<u32>
     requires asked { (meta : ℕ) → function ≡ performs (memory_of meta work.old) }
     ensures past { (meta : ℕ) → MatchOption result
         ((input : Input) → length (step_prints (memory_of meta work.old) input) ≤ free)
@@ -154,31 +144,17 @@ fn printed_past(
 {
     match closed_call(work) {
         None => None,
-        Some(place) => call_past(
-            work,
-            InnermostCall {
-                place,
-                no_comma_from,
-            },
-            function,
-            free,
-        ),
+        Some(place) => call_past(work, place, function, free),
     }
 }
 
-/// How many bytes the innermost call prints, which names this function, where they are more than
-/// `free`.
-fn call_past(
-    work: &mut Work,
-    call: InnermostCall,
-    function: Option<Function>,
-    free: u64,
-) -> Option<u32>
-    requires innermost { IsLastCall work.old.neutral call.place }
-    requires no_comma_from { HasNoCommaFrom call.no_comma_from work.old.neutral }
-    requires named { function ≡ function_at work.old.neutral call.place }
+/// How many bytes the innermost call prints, whose mark stands at the place and which names this function, where
+/// they are more than `free`.
+fn call_past(work: &mut Work, place: u32, function: Option<Function>, free: u64) -> Option<u32>
+    requires innermost { IsLastCall work.old.neutral place }
+    requires named { function ≡ function_at work.old.neutral place }
     requires sound { IsSound work.old }
-    ensures past { (meta : ℕ) → let printed = call_prints work.old call.place meta in
+    ensures past { (meta : ℕ) → let printed = call_prints work.old place meta in
         MatchOption result
         ((input : Input) → length (printed input) ≤ free)
         (λ n. (free < n) × ((input : Input) → n ≡ length (printed input))) }
@@ -188,7 +164,7 @@ fn call_past(
     if u64::from(work.neutral_len()) <= free && !displays(function) {
         return None;
     }
-    let printed = call_len(work, call);
+    let printed = call_len(work, place);
     if u64::from(printed) <= free {
         None
     } else {
@@ -209,10 +185,8 @@ fn displays(function: Option<Function>) -> bool
     }
 }
 
-/// How many bytes a step over these contents prints. From place `no_comma_from` on no comma mark stands in
-/// the neutral string.
-fn printed_len(work: &mut Work, no_comma_from: u32) -> u32
-    requires { HasNoCommaFrom no_comma_from work.old.neutral }
+/// How many bytes a step over these contents prints.
+fn printed_len(work: &mut Work) -> u32
     ensures length { (meta : ℕ) (input : Input) →
         result ≡ length (step_prints (memory_of meta work.old) input) }
     ensures same { work.new ≡ work.old }
@@ -220,26 +194,19 @@ fn printed_len(work: &mut Work, no_comma_from: u32) -> u32
 {
     match closed_call(work) {
         None => 0,
-        Some(place) => call_len(
-            work,
-            InnermostCall {
-                place,
-                no_comma_from,
-            },
-        ),
+        Some(place) => call_len(work, place),
     }
 }
 
-/// How many bytes the innermost call prints.
-fn call_len(work: &mut Work, call: InnermostCall) -> u32
-    requires innermost { IsLastCall work.old.neutral call.place }
-    requires no_comma_from { HasNoCommaFrom call.no_comma_from work.old.neutral }
+/// How many bytes the innermost call prints, whose mark stands at the place.
+fn call_len(work: &mut Work, place: u32) -> u32
+    requires innermost { IsLastCall work.old.neutral place }
     ensures length { (meta : ℕ) (input : Input) →
-        result ≡ length (call_prints work.old call.place meta input) }
+        result ≡ length (call_prints work.old place meta input) }
     ensures same { work.new ≡ work.old }
     ensures sound { IsSound work.new }
 {
-    let (function, mut arguments) = named_at(work, call.place, call.no_comma_from);
+    let (function, mut arguments) = named_at(work, place);
     let part = arguments.next(work);
     match function {
         None => 0,

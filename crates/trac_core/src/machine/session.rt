@@ -6,7 +6,6 @@ ghost use Rattle.trac_functions.specs.Flat.{memory_of};
 ghost use Rattle.trac_core.specs.Performed.{performs};
 ghost use Rattle.trac_core.specs.Machine.{KeepsLimits};
 ghost use Rattle.trac_core.specs.Session.{awaited, next_function, report_of};
-ghost use Rattle.trac_core.specs.StepsInRow.{HasNoCommaFrom};
 
 use super::Machine;
 use super::closing::{closed_call, named_at};
@@ -40,7 +39,6 @@ impl<'a> Machine<'a> {
     {
         self.work.clear_active();
         self.work.clear_neutral();
-        self.no_comma_from = 0;
         self.allowance = steps;
         self.steps = 0;
         self.peak = 0;
@@ -116,21 +114,19 @@ impl<'a> Machine<'a> {
         ensures { result ≡ next_function self.now }
     {
         if self.fate.is_none() && self.steps < self.allowance {
-            performed(&self.work, self.no_comma_from)
+            performed(&self.work)
         } else {
             None
         }
     }
 }
 
-/// The function that a step over these contents performs. From place `no_comma_from` on no comma mark
-/// stands in the neutral string.
-fn performed(work: &Work, no_comma_from: u32) -> Option<Function>
-    requires { HasNoCommaFrom no_comma_from work.now.neutral }
+/// The function that a step over these contents performs.
+fn performed(work: &Work) -> Option<Function>
     ensures { (meta : ℕ) → result ≡ performs (memory_of meta work.now) }
 {
     match closed_call(work) {
         None => None,
-        Some(place) => named_at(work, place, no_comma_from).0,
+        Some(place) => named_at(work, place).0,
     }
 }

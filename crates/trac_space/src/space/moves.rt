@@ -3,13 +3,13 @@ ghost use Rattle.std.specs.Prelude.{◌≡◌, ◌+◌, ◌-◌, ◌≤◌, ◌<
 ghost use Rattle.std.specs.Prelude.{slice_index_or, All};
 ghost use Rattle.trac_space.specs.declared.cell.Cell.{Cell};
 ghost use Rattle.trac_space.specs.declared.cell.Cell.TheVariants.{Byte};
-ghost use Rattle.trac_space.specs.Cells.{seen, bytes, NoCall, NoComma};
+ghost use Rattle.trac_space.specs.Cells.{seen, bytes, NoCall};
 ghost use Rattle.trac_space.specs.Runs.{IsInRun, number_in, turned};
 ghost use Rattle.trac_space.specs.Texts.{IsByte};
 
 use super::Space;
 use crate::cell::Cell;
-use crate::character_runs::{CharacterRun, translate_run};
+use crate::character_runs::translate_run;
 use crate::copies::{copy_cells, copy_mostly_apart};
 
 impl<'a> Space<'a> {
@@ -32,11 +32,11 @@ impl<'a> Space<'a> {
         self.active += count;
     }
 
-    /// Moves the first `n` cells of active to the end of neutral.
+    /// Moves the first `n` cells of active, which are characters, to the end of neutral.
     #[inline]
     pub fn active_to_neutral(&mut self, n: u32)
         requires within { n ≤ length self.old.active }
-        requires no_call { NoCall (take n self.old.active) }
+        requires bytes { All IsByte (take n self.old.active) }
         ensures moved { self.new ≡ record self.old {
           neutral = self.old.neutral ++ take n self.old.active;
           active = drop n self.old.active;
@@ -53,30 +53,32 @@ impl<'a> Space<'a> {
 
     /// Moves characters from the front of active to the end of neutral, at most `most`. `table` has a
     /// number for each byte: 0 keeps the character, 1 makes it a comma mark, a higher number ends the run
-    /// before it. Gives the run.
+    /// before it. Gives how many characters the run has.
     #[inline]
-    pub fn run_to_neutral(&mut self, most: u32, table: &[u8]) -> CharacterRun
+    pub fn run_to_neutral(&mut self, most: u32, table: &[u8]) -> u32
         requires within { most ≤ length self.old.active }
         requires bytes { All IsByte (take most self.old.active) }
         requires whole { length table.now ≡ 256 }
-        ensures few { result.len ≤ most }
-        ensures run { All (IsInRun table.now) (take result.len self.old.active) }
-        ensures ends { result.len < most →
-            1 < number_in table.now (slice_index_or self.old.active result.len (Byte 0)) }
-        ensures last { result.no_comma_from ≤ result.len }
-        ensures no_comma_from { NoComma (drop result.no_comma_from (turned table.now
-            (take result.len self.old.active))) }
+        ensures few { result ≤ most }
+        ensures run { All (IsInRun table.now) (take result self.old.active) }
+        ensures ends { result < most →
+            1 < number_in table.now (slice_index_or self.old.active result (Byte 0)) }
         ensures moved { self.new ≡ record self.old {
-          neutral = self.old.neutral ++ turned table.now (take result.len self.old.active);
-          active = drop result.len self.old.active;
+          neutral = self.old.neutral ++ turned table.now (take result self.old.active);
+          active = drop result self.old.active;
         } }
     {
         let start = (self.end - self.active) as usize;
         let to = (self.store + self.neutral) as usize;
         let run = translate_run(self.cells, start, to, most as usize, table);
-        self.neutral += run.len;
+        let before = self.neutral;
+        self.neutral = before + run.len;
         self.active -= run.len;
-        run
+        if run.no_comma_from == 0 {
+            return run.len;
+        }
+        self.no_comma_from = before + run.no_comma_from;
+        run.len
     }
 
     /// Removes the first `n` cells of active, one or more, and appends `cell` to neutral for them. Needs

@@ -6,7 +6,7 @@ ghost use Rattle.std.specs.List.{list_any};
 ghost use Rattle.std.specs.Bool.{OnTrue, OnFalse};
 ghost use Rattle.trac_space.specs.declared.cell.Cell.{Cell};
 ghost use Rattle.trac_space.specs.declared.cell.Cell.TheVariants.{Byte};
-ghost use Rattle.trac_space.specs.Cells.{seen, bytes, IsNoCall, NoCall, NoComma};
+ghost use Rattle.trac_space.specs.Cells.{seen, bytes, IsNoCall, NoCall};
 ghost use Rattle.trac_space.specs.Lists.{used, FitsBesideIndex, reserved};
 ghost use Rattle.trac_space.specs.Filled.{HaveCommas};
 ghost use Rattle.trac_space.specs.Tags.{takes_tag, untagged, HaveTags};
@@ -17,7 +17,7 @@ use crate::byte_writing::write_bytes;
 use crate::cell::{Cell, is_call, linked};
 use crate::copies::copy_cells;
 use crate::filling::tag_commas;
-use crate::tags::clear_tags;
+use crate::tags::{clear_tags, holds_comma};
 
 impl<'a> Space<'a> {
     /// Appends a cell to neutral. False, with nothing changed, if no cell is free.
@@ -62,9 +62,17 @@ impl<'a> Space<'a> {
         ensures { self.new ≡ record self.old { neutral = self.old.neutral ++ seen cell ∷ [] } }
     {
         let place = self.neutral;
-        let behind = self.top_frame;
-        self.cells[(self.store + place) as usize] = linked(cell, place, behind);
-        self.top_frame = if is_call(&cell) { place + 1 } else { behind };
+        self.cells[(self.store + place) as usize] = linked(cell, place, self.top_frame);
+        self.top_frame = if is_call(&cell) {
+            place + 1
+        } else {
+            self.top_frame
+        };
+        self.no_comma_from = if holds_comma(&cell) {
+            place + 1
+        } else {
+            self.no_comma_from
+        };
         self.neutral = place + 1;
     }
 
@@ -162,6 +170,7 @@ impl<'a> Space<'a> {
         let to = (self.store + self.neutral) as usize;
         copy_cells(self.cells, start, end, to);
         self.neutral += b - a;
+        self.no_comma_from = self.neutral;
     }
 
     /// Copies the cells of the store from place `a` up to `b` to the end of neutral. False, with nothing
@@ -198,24 +207,24 @@ impl<'a> Space<'a> {
         let to = (self.store + self.neutral) as usize;
         copy_cells(self.cells, a as usize, b as usize, to);
         self.neutral += b - a;
+        self.no_comma_from = self.neutral;
     }
 
     /// Puts the places of the comma marks of neutral from place `first` up to `end` as tags on the first cells
-    /// there, and gives how many they are. None stands from place `no_comma_from` up to `end`. `clear_neutral_tags`
-    /// takes them off again.
+    /// there, and gives how many they are. `clear_neutral_tags` takes them off again.
     #[inline(always)]
-    pub fn tag_commas(&mut self, first: u32, end: u32, no_comma_from: u32) -> u32
+    pub fn tag_commas(&mut self, first: u32, end: u32) -> u32
         requires order { first ≤ end }
         requires within { end ≤ length self.old.neutral }
-        requires no_comma_from { NoComma (slice_range self.old.neutral no_comma_from end) }
         requires takes { let cells = slice_range self.old.neutral first end in
             All (λ cell. IsTrue (takes_tag cell)) cells }
         ensures commas { HaveCommas (slice_range self.new.neutral first end) result }
         ensures numbers { HaveTags self.old.neutral self.new.neutral first end }
         ensures same { self.new ≡ record self.old { neutral = self.new.neutral } }
     {
+        let no_comma_from = self.no_comma_from.max(first).min(end) - first;
         let cells = &mut self.cells[(self.store + first) as usize..(self.store + end) as usize];
-        tag_commas(cells, (no_comma_from.max(first).min(end) - first) as usize) as u32
+        tag_commas(cells, no_comma_from as usize) as u32
     }
 
     /// Replaces the cell at place `i` of neutral. Neither the old nor the new one may be a call mark.
@@ -227,6 +236,11 @@ impl<'a> Space<'a> {
         ensures { self.new ≡ record self.old { neutral = slice_set self.old.neutral i cell } }
     {
         self.cells[(self.store + i) as usize] = cell;
+        self.no_comma_from = if holds_comma(&cell) {
+            self.no_comma_from.max(i + 1)
+        } else {
+            self.no_comma_from
+        };
     }
 
     /// Takes the tags off the cells of neutral from place `a` up to `b`.
@@ -248,6 +262,7 @@ impl<'a> Space<'a> {
     {
         self.neutral = 0;
         self.top_frame = 0;
+        self.no_comma_from = 0;
     }
 
     /// Removes all but the first `n` cells of neutral. Looks at each call mark that it removes.
@@ -259,6 +274,7 @@ impl<'a> Space<'a> {
         let top_frame = self.frame_before(n);
         self.top_frame = top_frame;
         self.neutral = n;
+        self.no_comma_from = n;
     }
 
     /// Removes the cells of neutral from place `a` up to `b`. No call mark may stand behind them.
@@ -274,8 +290,10 @@ impl<'a> Space<'a> {
         let end = (self.store + self.neutral) as usize;
         let to = (self.store + a) as usize;
         let top_frame = self.frame_before(a);
+        let rest = self.neutral - (b - a);
         copy_cells(self.cells, start, end, to);
-        self.neutral -= b - a;
+        self.neutral = rest;
         self.top_frame = top_frame;
+        self.no_comma_from = rest;
     }
 }

@@ -1,28 +1,30 @@
 //! The calls of a run that is watched: where they and their arguments were written, and what is suspicious at
 //! their ends.
 ghost use Rattle.std.specs.Prelude.{◌≡◌, ◌<◌, ◌-◌, ◌&&◌, [], OnOk, true, drop, false, length, min, not};
-ghost use Rattle.std.specs.Prelude.{reverse};
+ghost use Rattle.std.specs.Prelude.{reverse, if◌then◌else◌};
 ghost use Rattle.trac_warnings.specs.Counted.{counts_behind_call, counts_of};
 ghost use Rattle.trac_warnings.specs.Looked.{Looks, LooksAtEnd, LooksAtMark, around_of, begin_of};
-ghost use Rattle.trac_warnings.specs.Looked.{is_inside, is_stray, place_of};
+ghost use Rattle.trac_warnings.specs.Looked.{is_inside, is_last, is_stray, place_of};
 ghost use Rattle.trac_warnings.specs.Looked.{stray_warnings};
 ghost use Rattle.trac_space.specs.Texts.{text_of_cells};
 ghost use Rattle.trac_warnings.specs.Performed.{Warns, function_of, has_odd_operand};
+ghost use Rattle.trac_warnings.specs.Origins.{behind};
 ghost use Rattle.trac_warnings.specs.Rows.{argument_origin};
 ghost use Rattle.trac_warnings.specs.StepWarnings.{drop_warnings, is_arithmetic, is_null, lowered};
 ghost use Rattle.trac_warnings.specs.StepWarnings.{open_warnings, result_warnings, without_last};
 ghost use Rattle.trac_warnings.specs.Watched.{Kept, KeepsPlaces, KeepsRun, said};
 
-use super::{OpenString, Watch};
+use super::rows::is_at;
+use super::{Choice, OpenString, Watch};
 use crate::operands::has_odd_operand;
 use crate::origin::Origin;
-use crate::performed::{Ending, commas_in, look_at_call, warn};
+use crate::performed::{CalledFunction, Ending, commas_in, look_at_call, warn};
 use crate::warning::{Suspicion, Warning};
 use std::alloc::{AllocError, Allocator};
 use trac_core::{CallMark, Machine};
 use trac_events::{Before, argument, arguments_of, function_of};
 use trac_language::Function;
-use trac_space::{Cell, character_of};
+use trac_space::Cell;
 
 #[tactic(auto, using(crate::proofs::Keeping::keeping))]
 impl<A: Allocator + Copy> Watch<A> {
@@ -42,7 +44,10 @@ impl<A: Allocator + Copy> Watch<A> {
     {
         self.warn_of_stray(before.active)?;
         match machine.call_mark(0) {
-            None => Ok(()),
+            None => {
+                self.choice = Choice::Nothing;
+                Ok(())
+            }
             Some(mark) => self.look_at_call(machine, mark.place, input),
         }
     }
@@ -62,7 +67,6 @@ impl<A: Allocator + Copy> Watch<A> {
     }
 
     // Looks at the innermost call, whose mark stands at this place of the neutral string.
-    #[inline(never)]
     fn look_at_call(
         &mut self,
         machine: &Machine,
@@ -77,19 +81,23 @@ impl<A: Allocator + Copy> Watch<A> {
         let neutral = machine.neutral();
         let arguments = arguments_of(neutral, mark);
         let begin = self.begin();
+        let called = CalledFunction::by(machine, arguments);
         self.arguments.extend_from_slice(arguments)?;
         self.given = commas_in(arguments) as usize;
-        self.value = self.origin_of_form(machine, begin)?;
+        self.choice = Choice::by(&called);
+        self.value = self.origin_of_form(&called, begin)?;
         let is_inside = self.is_inside(begin);
+        let is_last = is_last(self.origin(), input);
         let ending = Ending {
             arguments,
             begin,
             places: places_of(&self.commas, self.given),
             around: arguments_around(neutral, machine.call_mark(1), mark),
-            is_inside,
             input,
+            is_inside,
+            is_last,
         };
-        look_at_call(&mut self.warnings, self.alloc, machine, &ending)
+        look_at_call(&mut self.warnings, self.alloc, machine, &called, &ending)
     }
 
     // Where the innermost call was written; if it isn't known, where its right parenthesis was.
@@ -312,6 +320,13 @@ fn arguments_around(neutral: &[Cell], outer: Option<CallMark>, mark: usize) -> &
     }
 }
 
+// Whether the right parenthesis at a place stands in the input, and another one behind it.
+fn is_last(end: Origin, input: &[u8]) -> bool
+    ensures { result ≡ is_last end input.now }
+{
+    end.form.is_none() && input.get(end.offset.saturating_add(1)) == Some(&b')')
+}
+
 // Where each argument behind the name of the innermost call was written, which are `given`. `commas` has the places of
 // the arguments of all open calls.
 pub(super) fn places_of(commas: &[Origin], given: usize) -> &[Origin]
@@ -325,8 +340,13 @@ pub(super) fn places_of(commas: &[Origin], given: usize) -> &[Origin]
 pub(super) fn argument_origin(comma: Origin, active: &[Cell]) -> Origin
     ensures { result ≡ argument_origin comma (text_of_cells active.now) }
 {
-    match active {
-        [first, ..] if character_of(first) == b'(' => comma.behind(2),
-        _ => comma.behind(1),
-    }
+    begin_of_argument(comma, is_at(active, 0, b'('))
+}
+
+// Where an argument begins, by the comma before it and whether the argument is protected.
+#[inline]
+pub(super) fn begin_of_argument(comma: Origin, is_protected: bool) -> Origin
+    ensures { result ≡ behind (if is_protected then 2 else 1) comma }
+{
+    comma.behind(if is_protected { 2 } else { 1 })
 }

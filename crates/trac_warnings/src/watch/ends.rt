@@ -20,6 +20,7 @@ use trac_core::ScanningRule;
 impl<A: Allocator + Copy> Watch<A> {
     // Looks at the strings that ended with a step by this rule. The step left `active` cells in the active
     // string, and the first of them was written `here`.
+    #[inline(always)]
     pub(super) fn warn_of_ends(
         &mut self,
         rule: ScanningRule,
@@ -36,9 +37,31 @@ impl<A: Allocator + Copy> Watch<A> {
         ensures calls { self.new.calls.items ≡ self.old.calls.items }
         ensures written { self.new.written ≡ self.old.written }
     {
-        if !ends_within(&self.strings, active) {
-            return Ok(());
+        if ends_within(&self.strings, active) {
+            self.warn_of_each_end(rule, active, here)
+        } else {
+            Ok(())
         }
+    }
+
+    // Looks at each string that ended with a step, as `warn_of_ends` does.
+    #[inline(never)]
+    fn warn_of_each_end(
+        &mut self,
+        rule: ScanningRule,
+        active: usize,
+        here: Origin,
+    ) -> Result<(), AllocError>
+        ensures kept { Kept self.old.warnings.items self.new.warnings.items }
+        ensures said { OnOk result (map said self.new.warnings.items ≡ ended rule active here
+            self.old.calls.items (map said self.old.warnings.items) (reverse self.old.strings.items)) }
+        ensures strings { OnOk result
+            (reverse self.new.strings.items ≡ not_ended active (reverse self.old.strings.items)) }
+        ensures runs { self.new.runs.items ≡ self.old.runs.items }
+        ensures read { self.new.read ≡ self.old.read }
+        ensures calls { self.new.calls.items ≡ self.old.calls.items }
+        ensures written { self.new.written ≡ self.old.written }
+    {
         for _ in 0..self.strings.len() {
             let Some(string) = self.strings.pop() else {
                 return Ok(());

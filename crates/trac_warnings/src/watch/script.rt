@@ -24,7 +24,7 @@ use trac_space::Cell;
 #[tactic(auto, using(crate::proofs::Keeping::keeping))]
 impl<A: Allocator + Copy> Watch<A> {
     // Looks at what a step read: its value, behind which `active` cells stand in the active string.
-    #[inline(never)]
+    #[inline(always)]
     pub(super) fn warn_of_read(
         &mut self,
         before: &Before,
@@ -65,7 +65,7 @@ impl<A: Allocator + Copy> Watch<A> {
 
     // Follows the active string over a step, which may have put a value there that was written at
     // `value`.
-    #[inline(never)]
+    #[inline(always)]
     pub(super) fn move_on(
         &mut self,
         before: &Before,
@@ -97,6 +97,7 @@ impl<A: Allocator + Copy> Watch<A> {
     }
 
     // Looks at a string of `len` characters that was read, behind which `active` cells are active.
+    #[inline(never)]
     fn warn_of_string(
         &mut self,
         before: &Before,

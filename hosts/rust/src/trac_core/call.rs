@@ -8,7 +8,7 @@ use crate::trac_core::display::print_form;
 use crate::trac_core::idling::load_idling;
 use crate::trac_core::input_output::{change_meta, print_string, read_character, read_string};
 use crate::trac_core::outcome::StepOutcome;
-use crate::trac_core::scan::{InnermostCall, NextAction};
+use crate::trac_core::scan::NextAction;
 use crate::trac_devices::{Sink, Source};
 use crate::trac_forms::Work;
 use crate::trac_functions::arguments::{Arguments, CallResult};
@@ -30,18 +30,18 @@ pub(crate) fn perform_next<I: Source, O: Sink>(
 {
     match action {
         NextAction::Idling => load_idling(work),
-        NextAction::EndOfCall(call) => {
+        NextAction::EndOfCall(place) => {
             work.drop_active(1);
-            perform(work, call, meta, source, sink)
+            perform(work, place, meta, source, sink)
         }
     }
 }
 
-/// Performs the innermost call, whose right parenthesis was deleted.
+/// Performs the innermost call, whose mark stands at the place and whose right parenthesis was deleted.
 #[inline(always)]
 fn perform<I: Source, O: Sink>(
     work: &mut Work,
-    call: InnermostCall,
+    place: u32,
     meta: &mut u8,
     source: &mut I,
     sink: &mut O,
@@ -49,10 +49,10 @@ fn perform<I: Source, O: Sink>(
 {
     let before = work.used();
     let part = Part {
-        from: call.place,
+        from: place,
         to: work.neutral_len(),
     };
-    let parts = named(work, call);
+    let parts = named(work, place);
     let Some(function) = parts.function else {
         return finish_call(work, part, before, nothing(work, parts));
     };
@@ -85,18 +85,17 @@ pub(crate) struct NamedCall {
     arguments: Arguments,
 }
 
-/// The parts of the innermost call.
+/// The parts of the innermost call, whose mark stands at the place.
 #[inline(always)]
-pub(crate) fn named(work: &Work, call: InnermostCall) -> NamedCall
+pub(crate) fn named(work: &Work, place: u32) -> NamedCall
 {
     let mut arguments = Arguments {
-        from: call.place + 1,
+        from: place + 1,
         end: work.neutral_len(),
-        no_comma_from: call.no_comma_from,
-        scanned: is_active_call(work, call.place),
+        scanned: is_active_call(work, place),
     };
     NamedCall {
-        place: call.place,
+        place,
         function: arguments.function(work),
         arguments,
     }

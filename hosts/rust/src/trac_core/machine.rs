@@ -32,8 +32,6 @@ pub use session::Awaits;
 pub struct Machine<'a> {
     work: Work<'a>,
     meta: u8,
-    /// A place of the neutral string from which on no comma mark stands.
-    no_comma_from: u32,
     allowance: u64,
     steps: u64,
     peak: u32,
@@ -50,7 +48,6 @@ impl<'a> Machine<'a> {
         Machine {
             work: Work::over(block),
             meta: b'\'',
-            no_comma_from: 0,
             allowance: steps,
             steps: 0,
             peak: 0,
@@ -85,12 +82,10 @@ impl<'a> Machine<'a> {
             });
         }
         let need = self.work.used();
-        let Some(action) = scan_once(&mut self.work, self.no_comma_from) else {
-            self.no_comma_from = self.work.neutral_len();
+        let Some(action) = scan_once(&mut self.work) else {
             return self.count(StepOutcome { fate: None, need });
         };
         let outcome = perform_next(&mut self.work, action, &mut self.meta, source, sink);
-        self.no_comma_from = self.work.neutral_len();
         self.count(outcome)
     }
 

@@ -95,8 +95,8 @@ impl Performer<(), ()> for Alone {
     ) -> Result<StepOutcome, Option<Function>> {
         match action {
             NextAction::Idling => Ok(load_idling(work)),
-            NextAction::EndOfCall(call) => {
-                let call = named(work, call);
+            NextAction::EndOfCall(place) => {
+                let call = named(work, place);
                 if needs_device(work, call) {
                     return Err(call.function);
                 }

@@ -10,16 +10,10 @@ use crate::trac_store::{Located, fill_items, heads_of};
 impl<'a> Work<'a> {
     /// Copies the form's body from its pointer on to the front of active, each gap k replaced by argument k:
     /// the k-th, from 1, of the texts between the comma marks of neutral from place `first` up to `end`, or
-    /// nothing if there is no such text. Gives how many characters these are. No comma mark stands in neutral
-    /// from place `no_comma_from` up to `end`. None, with nothing changed, if the copy doesn't fit.
+    /// nothing if there is no such text. Gives how many characters these are. None, with nothing changed, if the
+    /// copy doesn't fit.
     #[inline(always)]
-    pub fn load_filled(
-        &mut self,
-        form: FormId,
-        first: u32,
-        end: u32,
-        no_comma_from: u32,
-    ) -> Option<u32>
+    pub fn load_filled(&mut self, form: FormId, first: u32, end: u32) -> Option<u32>
     {
         let at = self.locate(form);
         let items = self.called_place(at);
@@ -27,7 +21,7 @@ impl<'a> Work<'a> {
             from: first,
             to: end,
         };
-        fill_items(&mut self.space, items, texts, no_comma_from)
+        fill_items(&mut self.space, items, texts)
     }
 
     // The part of the store that a call of the form copies: its body from its pointer on.

@@ -30,7 +30,7 @@ pub use body::{Body, TextBody};
 pub use item::{FormId, Full};
 pub use listed::{Forms, StoredForm};
 pub use crate::trac_language::Item;
-pub use crate::trac_space::{Cell, CharacterRun, Mode};
+pub use crate::trac_space::{Cell, Mode};
 pub use crate::trac_store::before_comma;
 pub use work::Work;
 

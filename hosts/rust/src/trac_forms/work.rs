@@ -1,7 +1,7 @@
 // Generated from crates/trac_forms/src/work.rt by hosts/rust/generate, and never edited.
 //! The strings of a `Work`.
 
-use crate::trac_space::{Cell, CharacterRun, Mode, Neutral, Space};
+use crate::trac_space::{Cell, Mode, Neutral, Space};
 use crate::trac_store::{FIRST_FORM, Located};
 
 // A part of neutral with at least this many characters is copied to active by a call.
@@ -60,6 +60,13 @@ impl<'a> Work<'a> {
     pub fn neutral_len(&self) -> u32
     {
         self.space.neutral_len()
+    }
+
+    /// A place of neutral from which on no comma mark stands. It may lie behind the end of neutral.
+    #[inline]
+    pub fn no_comma_from(&self) -> u32
+    {
+        self.space.no_comma_from()
     }
 
     /// How many cells active has.
@@ -222,9 +229,9 @@ impl<'a> Work<'a> {
 
     /// Moves characters from the front of active to the end of neutral, at most `most`. `table` has a
     /// number for each byte: 0 keeps the character, 1 makes it a comma mark, a higher number ends the run
-    /// before it. Gives the run. Needs no free cell.
+    /// before it. Gives how many characters the run has. Needs no free cell.
     #[inline]
-    pub fn run_to_neutral(&mut self, most: u32, table: &[u8]) -> CharacterRun
+    pub fn run_to_neutral(&mut self, most: u32, table: &[u8]) -> u32
     {
         self.space.run_to_neutral(most, table)
     }

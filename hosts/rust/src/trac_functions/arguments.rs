@@ -12,9 +12,6 @@ use crate::trac_space::Part;
 pub struct Arguments {
     pub from: u32,
     pub end: u32,
-    /// From this place on no comma mark stands before the end, as the caller knows: the last
-    /// argument is found without a search if it begins there or later.
-    pub no_comma_from: u32,
     /// Whether the value goes to the active string, as that of an active call does.
     pub scanned: bool,
 }
@@ -54,10 +51,11 @@ impl Arguments {
         Part { from, to }
     }
 
-    // The place where the next argument ends.
+    // The place where the next argument ends. It is found without a search where no comma mark stands from its
+    // beginning on.
     fn end_of_next(&self, work: &Work) -> u32
     {
-        if self.from >= self.no_comma_from {
+        if self.from >= work.no_comma_from() {
             return self.end;
         }
         self.from + before_comma(work.neutral_part(self.from, self.end))

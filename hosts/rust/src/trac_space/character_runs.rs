@@ -4,12 +4,12 @@
 use crate::trac_space::cell::{Cell, are_characters, are_four, are_two, byte_in, is_character};
 use crate::trac_space::copies::BLOCK;
 
-/// A run of characters, each kept or turned into a comma mark: how many they are, and from which of them on
-/// none is a comma mark.
+// A run of characters, each kept or turned into a comma mark: how many they are, and from which of them on
+// none is a comma mark.
 #[derive(Clone, Copy, Debug)]
-pub struct CharacterRun {
-    pub len: u32,
-    pub no_comma_from: u32,
+pub(crate) struct CharacterRun {
+    pub(crate) len: u32,
+    pub(crate) no_comma_from: u32,
 }
 
 // Copies characters to a lower place, at most `most`. `table` has a number for each byte: 0 keeps the

@@ -21,7 +21,7 @@ mod tags;
 #[cfg(test)]
 pub use crate::stand_in::make_block;
 pub use cell::{Cell, are_characters, byte_in, character_of, is_character};
-pub use character_runs::{CharacterRun, characters_from};
+pub use character_runs::characters_from;
 pub use neutral::Neutral;
 pub use part::Part;
 pub use space::Space;

@@ -29,6 +29,8 @@ pub struct Space<'a> {
     end: u32,
     // The place in neutral behind its last call mark, 0 if it has none.
     top_frame: u32,
+    // From this place on no comma mark stands in neutral, with or without a tag. It may lie behind the end.
+    no_comma_from: u32,
 }
 
 impl<'a> Space<'a> {
@@ -45,6 +47,7 @@ impl<'a> Space<'a> {
             active: 0,
             end,
             top_frame: 0,
+            no_comma_from: 0,
         }
     }
 
@@ -80,6 +83,13 @@ impl<'a> Space<'a> {
     pub fn neutral_len(&self) -> u32
     {
         self.neutral
+    }
+
+    /// A place of neutral from which on no comma mark stands. It may lie behind the end of neutral.
+    #[inline]
+    pub fn no_comma_from(&self) -> u32
+    {
+        self.no_comma_from
     }
 
     /// How many cells active has.

@@ -46,6 +46,13 @@ pub(crate) fn present_tag(cell: Cell) -> u32
     }
 }
 
+// Whether the cell is a comma mark, with or without a tag.
+#[inline(always)]
+pub(crate) fn holds_comma(cell: &Cell) -> bool
+{
+    matches!(cell, Cell::Comma | Cell::Gap(_))
+}
+
 // Takes the tags off the cells.
 #[inline(always)]
 pub(crate) fn clear_tags(cells: &mut [Cell])

@@ -15,6 +15,9 @@ mod devices;
 #[cfg(feature = "std")]
 mod fakes;
 #[cfg(test)]
+#[cfg(feature = "std")]
+mod interruptions;
+#[cfg(test)]
 mod machine;
 #[cfg(test)]
 mod session;

@@ -5,7 +5,7 @@ use Rattle.trac_core.proofs.call.named.Goals as goal
 
 pub returns-clause-named : goal.returns-clause-named
 returns-clause-named c =
-    let w = c.args.work.now in let place = c.args.call.place in
+    let w = c.args.work.now in let place = c.args.place in
     record {
       sound = c.requires.sound;
       innermost = c.requires.innermost;

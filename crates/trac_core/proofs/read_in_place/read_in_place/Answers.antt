@@ -1,5 +1,5 @@
 use Rattle.trac_core.proofs.Imports.{◌<◌, ◌≤◌, length, ◌∷◌, [], refl, subst, append-nil, arith, InputEnded, InputFailed, Workspace, Reads}
-use Rattle.trac_core.proofs.ReadInPlace.{in-place-to-meta, in-place-some, in-place-none, in-place-failed, in-place-full, in-place-takes, behind-bytes, in-place-no_comma, in-place-goes, in-place-ends}
+use Rattle.trac_core.proofs.ReadInPlace.{in-place-to-meta, in-place-some, in-place-none, in-place-failed, in-place-full, in-place-takes, behind-bytes, in-place-goes, in-place-ends}
 use Rattle.trac_core.proofs.read_in_place.read_in_place.Goals as goal
 
 pub scan_string-requires-clause-bytes : goal.scan_string-requires-clause-bytes
@@ -28,13 +28,6 @@ returns-in-Meta-clause-reads g c =
     (λ told. in-place-takes w p text c.args.meta c.requires.sound after reads (c.args.meta ∷ []) _ _ (omega arith) (r.1.1 told).0)
     c.in-Meta.ensures.told c.in-Meta.ensures.counts
 
-pub returns-in-Meta-clause-no_comma_from : goal.returns-in-Meta-clause-no_comma_from
-returns-in-Meta-clause-no_comma_from g c = λ none.
-    let r = c.in-Meta.ensures.reads in
-    let reads = subst (λ from. Reads c.args.meta from c.read_text.new.work r.0) c.set_strings.ensures.set r.1.0 in
-    let leaves = c.scan_string.ensures.leaves in
-    in-place-no_comma c.args.work.now c.read_text.new.work r.0 c.args.meta c.requires.sound c.read_text.ensures.sound reads c.scan_string.new.work c.args.most leaves.0 leaves.1
-
 pub returns-in-Ended-clause-reads : goal.returns-in-Ended-clause-reads
 returns-in-Ended-clause-reads g c =
     let w = c.args.work.now in
@@ -49,13 +42,6 @@ returns-in-Ended-clause-reads g c =
     (λ told written. in-place-some w p text c.args.meta c.requires.sound after reads _ _ written some (r.1.1 told).0 (r.1.1 told).1 (r.1.1 told).2)
     (λ told. in-place-takes w p text c.args.meta c.requires.sound after reads [] _ _ (omega arith) (rw ((r.1.1 told).1, append-nil text) (r.1.1 told).0))
     c.in-Ended.ensures.told c.in-Ended.ensures.counts
-
-pub returns-in-Ended-clause-no_comma_from : goal.returns-in-Ended-clause-no_comma_from
-returns-in-Ended-clause-no_comma_from g c = λ none.
-    let r = c.in-Ended.ensures.reads in
-    let reads = subst (λ from. Reads c.args.meta from c.read_text.new.work r.0) c.set_strings.ensures.set r.1.0 in
-    let leaves = c.scan_string-in-Ended.ensures.leaves in
-    in-place-no_comma c.args.work.now c.read_text.new.work r.0 c.args.meta c.requires.sound c.read_text.ensures.sound reads c.scan_string-in-Ended.new.work c.args.most leaves.0 leaves.1
 
 pub returns-in-Ended-2-clause-reads : goal.returns-in-Ended-2-clause-reads
 returns-in-Ended-2-clause-reads g c =

@@ -1,5 +1,4 @@
-use Rattle.trac_core.proofs.Imports.{◌+◌, take, arith, All-take, length-drop, text_of_cells, IsByte, IsOrdinary}
-use Rattle.trac_core.proofs.NoCommaEnds.{bytes-no_comma_from, no_comma_from-appended}
+use Rattle.trac_core.proofs.Imports.{◌+◌, arith, length-drop, text_of_cells, IsOrdinary}
 use Rattle.trac_core.proofs.Scanning.{some-active}
 use Rattle.trac_core.proofs.StepsInRow.{characters-pass, All-after}
 use Rattle.trac_core.proofs.scan.add_long_run.Goals as goal
@@ -22,9 +21,3 @@ returns-clause-passes c =
       few = omega arith;
       shorter = omega arith;
     })
-
-pub returns-clause-no_comma_from : goal.returns-clause-no_comma_from
-returns-clause-no_comma_from c = λ place no_comma_from.
-    let old = c.args.work.now in
-    rw c.active_to_neutral.ensures.moved
-    (no_comma_from-appended old.neutral (take (1 + c.ordinary_characters-count.result) old.active) (bytes-no_comma_from _ (All-take IsByte _ old.active c.requires.sound.active)) place no_comma_from)

@@ -12,8 +12,8 @@ returns-then-is_none-clause-passes c =
     let less = length-drop 1 old.active in
     rw c.drop_active.ensures.rest (one-step old (record old { active = drop 1 old.active }) c.args.most (scans-comma-none old c.requires.first none) (omega (arith, less)) (omega (arith, less, some)) c.requires.some)
 
-pub returns-then-long_runs_follow-clause-passes : goal.returns-then-long_runs_follow-clause-passes
-returns-then-long_runs_follow-clause-passes c =
+pub returns-then-are_in_a_row-clause-passes : goal.returns-then-are_in_a_row-clause-passes
+returns-then-are_in_a_row-clause-passes c =
     let old = c.args.work.now in
     let opened : is_some c.last_call.result ≡ true = (let e = rw c.if-is_none.false at c.is_none.ensures in cc) in
     let last = last-some c.last_call.result _ _ opened c.last_call.ensures in

@@ -1,7 +1,6 @@
 use Rattle.trac_core.proofs.Imports.{◌≡◌, ℕ, ◌<◌, ◌≤◌, ◌++◌, ◌∷◌, [], length, drop, arith, length-append, length-drop, length-map, Call, Mode, Contents, IsLastCall, Scans, character_of, text_of_cells, used}
 use Rattle.trac_core.specs.Rules.{Opens}
-use Rattle.trac_core.specs.StepsInRow.{KeepsNoComma}
-use Rattle.trac_core.proofs.NoCommaEnds.{last-opened, mark-no_comma_from, no_comma_from-appended}
+use Rattle.trac_core.proofs.ArgumentRuns.{last-opened}
 use Rattle.trac_core.proofs.Scanning.{scans-call}
 use Rattle.trac_core.proofs.StepsInRow.{one-step, step-run}
 use Rattle.trac_core.proofs.scan.begin_call.Goals as goal
@@ -12,7 +11,6 @@ record Opened (old new : Contents) : Type 0 where
   no_larger : used new ≤ used old
   shorter : length new.active < length old.active
   last : (place : ℕ) × IsLastCall new.neutral place
-  no_comma_from : KeepsNoComma old new
 
 opened : (old new : Contents) (mode : Mode) (n : ℕ) → Opens mode n (text_of_cells old.active) → 0 < n → new ≡ record old { active = drop n old.active; neutral = old.neutral ++ Call mode 0 ∷ [] } → Opened old new
 opened old new mode n opens some is =
@@ -25,28 +23,17 @@ opened old new mode n opens some is =
       no_larger = omega arith;
       shorter = omega arith;
       last = (_, last-opened old.neutral mode);
-      no_comma_from = λ place no_comma_from. no_comma_from-appended old.neutral _ (mark-no_comma_from mode) place no_comma_from;
     })
 
-pub returns-then-long_runs_follow-clause-passes : goal.returns-then-long_runs_follow-clause-passes
-returns-then-long_runs_follow-clause-passes c =
+pub returns-then-are_in_a_row-clause-passes : goal.returns-then-are_in_a_row-clause-passes
+returns-then-are_in_a_row-clause-passes c =
     let o = opened c.args.work.now _ c.args.mode c.args.characters c.requires.first c.requires.one c.active_to_cell.ensures.turned in
     one-step _ _ c.args.most o.scans o.no_larger o.shorter c.requires.some
-
-pub returns-then-long_runs_follow-clause-no_comma_from : goal.returns-then-long_runs_follow-clause-no_comma_from
-returns-then-long_runs_follow-clause-no_comma_from c =
-    let o = opened c.args.work.now _ c.args.mode c.args.characters c.requires.first c.requires.one c.active_to_cell.ensures.turned in
-    o.no_comma_from c.args.hints.now.no_comma_from c.requires.no_comma_from
 
 pub add_run-requires-clause-opened : goal.add_run-requires-clause-opened
 add_run-requires-clause-opened c =
     let o = opened c.args.work.now _ c.args.mode c.args.characters c.requires.first c.requires.one c.active_to_cell.ensures.turned in
     o.last
-
-pub add_run-requires-clause-no_comma_from : goal.add_run-requires-clause-no_comma_from
-add_run-requires-clause-no_comma_from c =
-    let o = opened c.args.work.now _ c.args.mode c.args.characters c.requires.first c.requires.one c.active_to_cell.ensures.turned in
-    o.no_comma_from c.args.hints.now.no_comma_from c.requires.no_comma_from
 
 pub returns-clause-passes : goal.returns-clause-passes
 returns-clause-passes c =

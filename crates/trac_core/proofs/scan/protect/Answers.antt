@@ -1,6 +1,5 @@
 use Rattle.trac_core.proofs.Imports.{◌≡◌, ◌+◌, ◌++◌, take, drop, All, ◌-◌, Some, None, sym, ap, ◌∙◌, subst, All-take, All-drop, protected, IsByte, Contents}
 use Rattle.trac_functions.proofs.ArgumentLemmas.{bytes-seen}
-use Rattle.trac_core.proofs.NoCommaEnds.{bytes-no_comma_from, no_comma_from-appended}
 use Rattle.trac_core.proofs.Scanning.{scans-protected, scans-unmatched, text-after}
 use Rattle.trac_core.proofs.scan.protect.Goals as goal
 
@@ -25,13 +24,3 @@ returns-in-None-clause-scans c =
     let old = c.args.work.now in
     let text = text-after old.active c.active_part.result.now c.active_len.result c.active_part.ensures c.active_len.ensures.value in
     rw c.clear_active.ensures.empty (scans-unmatched old c.requires.first (subst (λ t. protected t ≡ None) text c.in-None.ensures))
-
-pub returns-in-Some-clause-no_comma_from : goal.returns-in-Some-clause-no_comma_from
-returns-in-Some-clause-no_comma_from c = λ place no_comma_from.
-    let old = c.args.work.now in
-    let text = take c.in-Some.len (drop 1 old.active) in
-    let moved = ap (λ (w : Contents). w.neutral) c.drop_active-in-Some.ensures.rest
-    ∙ ap (λ (w : Contents). w.neutral) c.active_to_neutral.ensures.moved
-    ∙ ap (λ (w : Contents). w.neutral ++ take c.in-Some.len w.active) c.drop_active.ensures.rest in
-    rw moved
-    (no_comma_from-appended old.neutral text (bytes-no_comma_from text (All-take IsByte c.in-Some.len (drop 1 old.active) (All-drop IsByte 1 old.active c.requires.sound.active))) place no_comma_from)

@@ -48,8 +48,8 @@ loop-form-preserved c =
           let stop = ap (λ (g : Part). g.to) w.gap-is ∙ w.move_gap-gap.ensures.end in
           rw (w.space-is, w.kept-is, begin, stop) (swept-gone i c.requires.forms.forms.whole (less k) end ends w.move_gap-gap.new.space marked w.move_gap-gap.ensures.moved)
       | else-form w ↦
-          let no_comma_from : is_marked form ≡ false = grind (arith, pointer, w.if-form.false) in
-          rw (w.space-is, w.kept-is, w.gap-is) (swept-more i c.requires.forms.forms.whole (less k) end ends no_comma_from)
+          let none_before : is_marked form ≡ false = grind (arith, pointer, w.if-form.false) in
+          rw (w.space-is, w.kept-is, w.gap-is) (swept-more i c.requires.forms.forms.whole (less k) end ends none_before)
     ]
 
 pub loop-form-init : goal.loop-form-init

@@ -1,5 +1,7 @@
-use Rattle.trac_space.proofs.Imports.{◌≡◌, ◌+◌, ◌-◌, ◌<◌, length, drop, set, sym, ap, ◌∙◌, subst, slice_index_or, arith, length-drop, length-map, paste_more, paste, Byte, is_comma, IsByte, character_of, number_in, turned, turned_by}
-use Rattle.trac_space.proofs.Runs.{run-cell, byte-at, run-more, turned-at, turned-byte, turned-one, no_comma_from-more, no_comma_from-none}
+use Rattle.trac_space.proofs.Imports.{◌≡◌, ◌+◌, ◌-◌, ◌<◌, length, drop, set, sym, ap, ◌∙◌, subst, slice_index_or, arith, length-drop, length-map, length-take, take, paste_more, paste, Byte, IsByte, character_of, number_in, turned, turned_by}
+use Rattle.trac_space.proofs.Runs.{run-cell, byte-at, run-more, turned-at, turned-byte, turned-one, no_comma-more}
+use Rattle.trac_space.specs.Tags.{holds_comma}
+use Rattle.trac_space.proofs.CommaPlaces.{no_comma-past}
 use Rattle.trac_space.proofs.character_runs.translate_run.Goals as goal
 use Rattle.trac_space.proofs.character_runs.translate_run.Goals.{then-number-eq0, else-number-eq0+then-number-eq1}
 
@@ -36,7 +38,7 @@ loop-count-preserved c =
             within = omega (arith, less);
             run = run-more table was start k (Byte 0) inside kept.run (omega (arith, none));
             last = omega (arith, w.no_comma_from-is, kept.last);
-            no_comma_from = rw w.no_comma_from-is (no_comma_from-more table was start k (Byte 0) inside c.loop-count.no_comma_from kept.last (ap is_comma (turned-byte table cell none)) kept.no_comma_from);
+            no_comma_from = rw w.no_comma_from-is (no_comma-more table was start k (Byte 0) inside c.loop-count.no_comma_from (ap holds_comma (turned-byte table cell none)) kept.no_comma_from);
             copied = w.cells-is ∙ ap (set now (to + k)) (byte ∙ sym (turned-byte table cell none)) ∙ copied;
           })
       | else-number-eq0+then-number-eq1 w ↦ (
@@ -45,7 +47,7 @@ loop-count-preserved c =
             within = omega (arith, less);
             run = run-more table was start k (Byte 0) inside kept.run (omega (arith, one));
             last = omega (arith, w.no_comma_from-is);
-            no_comma_from = rw w.no_comma_from-is (no_comma_from-none source (k + 1) (omega (arith, long, inside)));
+            no_comma_from = rw w.no_comma_from-is (no_comma-past (take (k + 1) source) (k + 1) (omega (arith, length-take (k + 1) source)));
             copied = w.cells-is ∙ ap (set now (to + k)) (sym (turned-one table cell one)) ∙ copied;
           })
     ]

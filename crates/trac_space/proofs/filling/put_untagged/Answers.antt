@@ -33,5 +33,5 @@ returns-then-start-tagged-clause-front c =
 pub returns-then-start-tagged-clause-put : goal.returns-then-start-tagged-clause-put
 returns-then-start-tagged-clause-put c =
     let none : c.args.given.start + c.args.given.commas - c.args.start ≡ 0 = omega (arith, c.if-start-tagged.true) in
-    let no_comma_from : map untagged (slice_range c.args.cells.now c.args.start (c.args.start + c.args.n)) ≡ slice_range c.args.cells.now c.args.start (c.args.start + c.args.n) = rw none at c.requires.others in
-    copied-all c.args.cells.now c.put_as_they_are.new.cells c.args.start c.args.to c.args.n c.requires.apart c.requires.room c.put_as_they_are.ensures.after ∙ ap (λ l. l ++ drop (c.args.to + c.args.n) c.args.cells.now) (sym no_comma_from)
+    let plain : map untagged (slice_range c.args.cells.now c.args.start (c.args.start + c.args.n)) ≡ slice_range c.args.cells.now c.args.start (c.args.start + c.args.n) = rw none at c.requires.others in
+    copied-all c.args.cells.now c.put_as_they_are.new.cells c.args.start c.args.to c.args.n c.requires.apart c.requires.room c.put_as_they_are.ensures.after ∙ ap (λ l. l ++ drop (c.args.to + c.args.n) c.args.cells.now) (sym plain)

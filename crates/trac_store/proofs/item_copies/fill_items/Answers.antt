@@ -2,19 +2,19 @@ use Rattle.trac_store.proofs.Imports.{◌≡◌, ℕ, ◌≤◌, ◌++◌, true,
 use Rattle.std.specs.Option.{is_some}
 use Rattle.trac_space.specs.declared.part.Part.{Part}
 use Rattle.trac_store.specs.Arguments.{LoadsText, LoadsCharacters}
-use Rattle.trac_store.proofs.Filling.{no_comma_from-flat, no_comma_from-length}
+use Rattle.trac_store.proofs.Filling.{characters-flat, characters-length}
 use Rattle.trac_store.proofs.item_copies.fill_items.Goals as goal
 
 -- characters are filled by no text
-no_comma_from : (result : Option ℕ) (old new : Lists) (items texts : Part) → items.to ≤ length old.store → is_some result ≡ true
+characters : (result : Option ℕ) (old new : Lists) (items texts : Part) → items.to ≤ length old.store → is_some result ≡ true
     → LoadsCharacters old new items.from items.to result
     → LoadsText old new (filled_cells old items.from items.to texts.from texts.to) result
-no_comma_from None old new items texts within some h = absurd (false≢true some)
-no_comma_from (Some n) old new items texts within some h =
+characters None old new items texts within some h = absurd (false≢true some)
+characters (Some n) old new items texts within some h =
     let given = texts_between old.neutral texts.from texts.to in
     let text = filled_cells old items.from items.to texts.from texts.to in
-    let flat = no_comma_from-flat given (slice_range old.store items.from items.to) h.0 in
-    let size = no_comma_from-length given old.store items.from items.to within h.0 in
+    let flat = characters-flat given (slice_range old.store items.from items.to) h.0 in
+    let size = characters-length given old.store items.from items.to within h.0 in
     let stands = h.3 in
     let index_area : new.index_area ≡ (reserved n old).index_area = ap (λ (l : Lists). l.index_area) stands in (
       omega (arith, size, h.1),
@@ -26,4 +26,4 @@ no_comma_from (Some n) old new items texts within some h =
 
 pub returns-then-is_some-clause-filled : goal.returns-then-is_some-clause-filled
 returns-then-is_some-clause-filled c =
-    no_comma_from c.load_items-loaded.result c.args.space.now c.load_items-loaded.new.space c.args.items c.args.texts c.requires.within (sym c.is_some.ensures ∙ c.if-is_some.true) c.load_items-loaded.ensures
+    characters c.load_items-loaded.result c.args.space.now c.load_items-loaded.new.space c.args.items c.args.texts c.requires.within (sym c.is_some.ensures ∙ c.if-is_some.true) c.load_items-loaded.ensures

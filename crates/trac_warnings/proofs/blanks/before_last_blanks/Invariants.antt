@@ -1,11 +1,15 @@
-use Rattle.std.proofs.Common.{◌≡◌, ◌≤◌, drop}
-use Rattle.trac_warnings.specs.Blanks.{end_behind}
+use Rattle.std.proofs.Common.{◌≡◌, ◌≤◌, length, take}
+use Rattle.trac_warnings.specs.Blanks.{before_blanks}
 use Rattle.trac_warnings.proofs.blanks.before_last_blanks.Given as goal
 
--- the end so far, and the cells that are left, give the end of all; it isn't behind the cells so far
-abbrev pub invariant-loop-i : goal.invariant-loop-i
-invariant-loop-i l =
+-- the cells behind the end so far are blanks and layout
+abbrev pub invariant-loop-end : goal.invariant-loop-end
+invariant-loop-end l =
     record {
-      same : end_behind l.end l.i (drop l.i l.cells) ≡ end_behind 0 0 l.cells;
-      within : l.end ≤ l.i;
+      same : before_blanks (take l.end l.cells) ≡ before_blanks l.cells;
+      within : l.end ≤ length l.cells;
     }
+
+-- the cells that are left
+abbrev pub decreases-loop-end : goal.decreases-loop-end
+decreases-loop-end l = l.end

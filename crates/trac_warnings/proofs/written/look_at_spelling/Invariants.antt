@@ -1,4 +1,4 @@
-use Rattle.std.proofs.Common.{◌≡◌, ◌++◌, false, drop, map}
+use Rattle.std.proofs.Common.{◌≡◌, ◌++◌, ◌-◌, false, drop, length, map}
 use Rattle.trac_warnings.specs.Script.{spelled}
 use Rattle.trac_warnings.specs.Watched.{Kept, said}
 use Rattle.trac_warnings.proofs.written.look_at_spelling.Given as goal
@@ -11,3 +11,7 @@ invariant-loop-place g l =
       said : map said l.warnings.items ++ spelled l.is_reported l.is_behind_sign l.place (drop l.place l.input)
           ≡ map said l.initial.warnings.items ++ spelled false false 0 l.input;
     }
+
+-- the bytes that are left
+abbrev pub decreases-loop-place : goal.decreases-loop-place
+decreases-loop-place g l = length l.input - l.place

@@ -42,7 +42,7 @@ impl<'a> Machine<'a> {
         if self.steps == self.allowance {
             return false;
         }
-        unknown_call(&self.work, self.no_comma_from).is_some()
+        unknown_call(&self.work).is_some()
     }
 
     /// Makes the next step, which performs a call whose name is no function, and gives the call this value
@@ -56,7 +56,7 @@ impl<'a> Machine<'a> {
         if self.fate.is_some() {
             return Err(Refused);
         }
-        let Some(place) = unknown_call(&self.work, self.no_comma_from) else {
+        let Some(place) = unknown_call(&self.work) else {
             return Err(Refused);
         };
         if self.steps == self.allowance {
@@ -64,19 +64,18 @@ impl<'a> Machine<'a> {
             return Ok(self.fate);
         }
         let outcome = end_answered(&mut self.work, place, value, how);
-        self.no_comma_from = self.work.neutral_len();
         Ok(self.count(outcome))
     }
 }
 
 /// Where the mark stands of the call of no function that a step over these contents performs. None if it performs
-/// no call, or one of a function. From place `no_comma_from` on no comma mark stands in the neutral string.
-fn unknown_call(work: &Work, no_comma_from: u32) -> Option<u32>
+/// no call, or one of a function.
+fn unknown_call(work: &Work) -> Option<u32>
 {
     let Some(place) = closed_call(work) else {
         return None;
     };
-    if named_at(work, place, no_comma_from).0.is_some() {
+    if named_at(work, place).0.is_some() {
         return None;
     }
     Some(place)

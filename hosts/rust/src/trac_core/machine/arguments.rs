@@ -13,7 +13,7 @@ impl<'a> Machine<'a> {
     pub fn argument_count(&self) -> u32
     {
         if self.fate.is_none() && self.steps < self.allowance {
-            performed_count(&self.work, self.no_comma_from)
+            performed_count(&self.work)
         } else {
             0
         }
@@ -25,7 +25,7 @@ impl<'a> Machine<'a> {
     pub fn argument(&self, which: u32) -> Option<&[Cell]>
     {
         if self.fate.is_none() && self.steps < self.allowance {
-            performed_argument(&self.work, self.no_comma_from, which)
+            performed_argument(&self.work, which)
         } else {
             None
         }
@@ -33,23 +33,22 @@ impl<'a> Machine<'a> {
 }
 
 /// How many arguments the call has that a step over these contents performs, the name counted; 0 if it performs
-/// none. From place `no_comma_from` on no comma mark stands in the neutral string.
-fn performed_count(work: &Work, no_comma_from: u32) -> u32
+/// none.
+fn performed_count(work: &Work) -> u32
 {
     match closed_call(work) {
         None => 0,
-        Some(place) => arguments_left(work, arguments_at(work, place, no_comma_from)),
+        Some(place) => arguments_left(work, arguments_at(work, place)),
     }
 }
 
-/// An argument of the call that a step over these contents performs, the name being argument 0. From place
-/// `no_comma_from` on no comma mark stands in the neutral string.
-fn performed_argument<'w>(work: &'w Work, no_comma_from: u32, which: u32) -> Option<&'w [Cell]>
+/// An argument of the call that a step over these contents performs, the name being argument 0.
+fn performed_argument<'w>(work: &'w Work, which: u32) -> Option<&'w [Cell]>
 {
     let Some(place) = closed_call(work) else {
         return None;
     };
-    let mut arguments = arguments_at(work, place, no_comma_from);
+    let mut arguments = arguments_at(work, place);
     for _before in 0..which {
         if arguments.is_empty() {
             return None;

@@ -19,24 +19,22 @@ pub(crate) fn closed_call(work: &Work) -> Option<u32>
     }
 }
 
-/// The arguments of the innermost call, whose mark stands at the place, the name first. From place
-/// `no_comma_from` on no comma mark stands in the neutral string.
-pub(super) fn arguments_at(work: &Work, place: u32, no_comma_from: u32) -> Arguments
+/// The arguments of the innermost call, whose mark stands at the place, the name first.
+pub(super) fn arguments_at(work: &Work, place: u32) -> Arguments
 {
     let end = work.neutral_len();
     Arguments {
         from: place + 1,
         end,
-        no_comma_from,
         scanned: false,
     }
 }
 
 /// The function that the innermost call names, whose mark stands at the place, and the arguments
-/// behind the name. From place `no_comma_from` on no comma mark stands in the neutral string.
-pub(super) fn named_at(work: &Work, place: u32, no_comma_from: u32) -> (Option<Function>, Arguments)
+/// behind the name.
+pub(super) fn named_at(work: &Work, place: u32) -> (Option<Function>, Arguments)
 {
-    let mut arguments = arguments_at(work, place, no_comma_from);
+    let mut arguments = arguments_at(work, place);
     let name = arguments.next(work);
     (function_named(text(work, name)), arguments)
 }

@@ -7,7 +7,6 @@ use super::closing::{closed_call, named_at};
 use crate::trac_core::delivery::finish_call;
 use crate::trac_core::display::display_len;
 use crate::trac_core::outcome::StepOutcome;
-use crate::trac_core::scan::InnermostCall;
 use crate::trac_forms::Work;
 use crate::trac_functions::arguments::CallResult;
 use crate::trac_language::Function;
@@ -21,7 +20,7 @@ impl<'a> Machine<'a> {
     pub fn prints_past(&mut self, function: Option<Function>, free: u64) -> Option<u32>
     {
         if prints(function) {
-            printed_past(&mut self.work, self.no_comma_from, function, free)
+            printed_past(&mut self.work, function, free)
         } else {
             None
         }
@@ -38,20 +37,19 @@ impl<'a> Machine<'a> {
         if !prints(function) {
             return Err(Refused);
         }
-        let Some(outcome) = skip_printing(&mut self.work, self.no_comma_from) else {
+        let Some(outcome) = skip_printing(&mut self.work) else {
             return Err(Refused);
         };
-        self.no_comma_from = self.work.neutral_len();
         self.count(outcome);
         Ok(())
     }
 }
 
 /// Makes a step that performs a call of a function that prints, and drops what it prints. None, with nothing changed,
-/// where it prints nothing. From place `no_comma_from` on no comma mark stands in the neutral string.
-fn skip_printing(work: &mut Work, no_comma_from: u32) -> Option<StepOutcome>
+/// where it prints nothing.
+fn skip_printing(work: &mut Work) -> Option<StepOutcome>
 {
-    if printed_len(work, no_comma_from) == 0 {
+    if printed_len(work) == 0 {
         return None;
     }
     let Some(place) = closed_call(work) else {
@@ -81,41 +79,23 @@ fn prints(function: Option<Function>) -> bool
 }
 
 /// How many bytes a step over these contents prints, which performs this function, where they are
-/// more than `free`. From place `no_comma_from` on no comma mark stands in the neutral string.
-fn printed_past(
-    work: &mut Work,
-    no_comma_from: u32,
-    function: Option<Function>,
-    free: u64,
-) -> Option<u32>
+/// more than `free`.
+fn printed_past(work: &mut Work, function: Option<Function>, free: u64) -> Option<u32>
 {
     match closed_call(work) {
         None => None,
-        Some(place) => call_past(
-            work,
-            InnermostCall {
-                place,
-                no_comma_from,
-            },
-            function,
-            free,
-        ),
+        Some(place) => call_past(work, place, function, free),
     }
 }
 
-/// How many bytes the innermost call prints, which names this function, where they are more than
-/// `free`.
-fn call_past(
-    work: &mut Work,
-    call: InnermostCall,
-    function: Option<Function>,
-    free: u64,
-) -> Option<u32>
+/// How many bytes the innermost call prints, whose mark stands at the place and which names this function, where
+/// they are more than `free`.
+fn call_past(work: &mut Work, place: u32, function: Option<Function>, free: u64) -> Option<u32>
 {
     if u64::from(work.neutral_len()) <= free && !displays(function) {
         return None;
     }
-    let printed = call_len(work, call);
+    let printed = call_len(work, place);
     if u64::from(printed) <= free {
         None
     } else {
@@ -135,26 +115,19 @@ fn displays(function: Option<Function>) -> bool
     }
 }
 
-/// How many bytes a step over these contents prints. From place `no_comma_from` on no comma mark stands in
-/// the neutral string.
-fn printed_len(work: &mut Work, no_comma_from: u32) -> u32
+/// How many bytes a step over these contents prints.
+fn printed_len(work: &mut Work) -> u32
 {
     match closed_call(work) {
         None => 0,
-        Some(place) => call_len(
-            work,
-            InnermostCall {
-                place,
-                no_comma_from,
-            },
-        ),
+        Some(place) => call_len(work, place),
     }
 }
 
-/// How many bytes the innermost call prints.
-fn call_len(work: &mut Work, call: InnermostCall) -> u32
+/// How many bytes the innermost call prints, whose mark stands at the place.
+fn call_len(work: &mut Work, place: u32) -> u32
 {
-    let (function, mut arguments) = named_at(work, call.place, call.no_comma_from);
+    let (function, mut arguments) = named_at(work, place);
     let part = arguments.next(work);
     match function {
         None => 0,

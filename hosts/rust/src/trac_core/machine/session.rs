@@ -25,7 +25,6 @@ impl<'a> Machine<'a> {
     {
         self.work.clear_active();
         self.work.clear_neutral();
-        self.no_comma_from = 0;
         self.allowance = steps;
         self.steps = 0;
         self.peak = 0;
@@ -92,19 +91,18 @@ impl<'a> Machine<'a> {
     pub fn next_function(&self) -> Option<Function>
     {
         if self.fate.is_none() && self.steps < self.allowance {
-            performed(&self.work, self.no_comma_from)
+            performed(&self.work)
         } else {
             None
         }
     }
 }
 
-/// The function that a step over these contents performs. From place `no_comma_from` on no comma mark
-/// stands in the neutral string.
-fn performed(work: &Work, no_comma_from: u32) -> Option<Function>
+/// The function that a step over these contents performs.
+fn performed(work: &Work) -> Option<Function>
 {
     match closed_call(work) {
         None => None,
-        Some(place) => named_at(work, place, no_comma_from).0,
+        Some(place) => named_at(work, place).0,
     }
 }

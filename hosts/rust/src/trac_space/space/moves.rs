@@ -3,7 +3,7 @@
 
 use super::Space;
 use crate::trac_space::cell::Cell;
-use crate::trac_space::character_runs::{CharacterRun, translate_run};
+use crate::trac_space::character_runs::translate_run;
 use crate::trac_space::copies::{copy_cells, copy_mostly_apart};
 
 impl<'a> Space<'a> {
@@ -20,7 +20,7 @@ impl<'a> Space<'a> {
         self.active += count;
     }
 
-    /// Moves the first `n` cells of active to the end of neutral.
+    /// Moves the first `n` cells of active, which are characters, to the end of neutral.
     #[inline]
     pub fn active_to_neutral(&mut self, n: u32)
     {
@@ -35,16 +35,21 @@ impl<'a> Space<'a> {
 
     /// Moves characters from the front of active to the end of neutral, at most `most`. `table` has a
     /// number for each byte: 0 keeps the character, 1 makes it a comma mark, a higher number ends the run
-    /// before it. Gives the run.
+    /// before it. Gives how many characters the run has.
     #[inline]
-    pub fn run_to_neutral(&mut self, most: u32, table: &[u8]) -> CharacterRun
+    pub fn run_to_neutral(&mut self, most: u32, table: &[u8]) -> u32
     {
         let start = (self.end - self.active) as usize;
         let to = (self.store + self.neutral) as usize;
         let run = translate_run(self.cells, start, to, most as usize, table);
-        self.neutral += run.len;
+        let before = self.neutral;
+        self.neutral = before + run.len;
         self.active -= run.len;
-        run
+        if run.no_comma_from == 0 {
+            return run.len;
+        }
+        self.no_comma_from = before + run.no_comma_from;
+        run.len
     }
 
     /// Removes the first `n` cells of active, one or more, and appends `cell` to neutral for them. Needs

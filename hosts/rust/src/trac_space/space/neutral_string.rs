@@ -7,7 +7,7 @@ use crate::trac_space::byte_writing::write_bytes;
 use crate::trac_space::cell::{Cell, is_call, linked};
 use crate::trac_space::copies::copy_cells;
 use crate::trac_space::filling::tag_commas;
-use crate::trac_space::tags::clear_tags;
+use crate::trac_space::tags::{clear_tags, holds_comma};
 
 impl<'a> Space<'a> {
     /// Appends a cell to neutral. False, with nothing changed, if no cell is free.
@@ -38,9 +38,17 @@ impl<'a> Space<'a> {
     pub fn put_neutral(&mut self, cell: Cell)
     {
         let place = self.neutral;
-        let behind = self.top_frame;
-        self.cells[(self.store + place) as usize] = linked(cell, place, behind);
-        self.top_frame = if is_call(&cell) { place + 1 } else { behind };
+        self.cells[(self.store + place) as usize] = linked(cell, place, self.top_frame);
+        self.top_frame = if is_call(&cell) {
+            place + 1
+        } else {
+            self.top_frame
+        };
+        self.no_comma_from = if holds_comma(&cell) {
+            place + 1
+        } else {
+            self.no_comma_from
+        };
         self.neutral = place + 1;
     }
 
@@ -104,6 +112,7 @@ impl<'a> Space<'a> {
         let to = (self.store + self.neutral) as usize;
         copy_cells(self.cells, start, end, to);
         self.neutral += b - a;
+        self.no_comma_from = self.neutral;
     }
 
     /// Copies the cells of the store from place `a` up to `b` to the end of neutral. False, with nothing
@@ -125,16 +134,17 @@ impl<'a> Space<'a> {
         let to = (self.store + self.neutral) as usize;
         copy_cells(self.cells, a as usize, b as usize, to);
         self.neutral += b - a;
+        self.no_comma_from = self.neutral;
     }
 
     /// Puts the places of the comma marks of neutral from place `first` up to `end` as tags on the first cells
-    /// there, and gives how many they are. None stands from place `no_comma_from` up to `end`. `clear_neutral_tags`
-    /// takes them off again.
+    /// there, and gives how many they are. `clear_neutral_tags` takes them off again.
     #[inline(always)]
-    pub fn tag_commas(&mut self, first: u32, end: u32, no_comma_from: u32) -> u32
+    pub fn tag_commas(&mut self, first: u32, end: u32) -> u32
     {
+        let no_comma_from = self.no_comma_from.max(first).min(end) - first;
         let cells = &mut self.cells[(self.store + first) as usize..(self.store + end) as usize];
-        tag_commas(cells, (no_comma_from.max(first).min(end) - first) as usize) as u32
+        tag_commas(cells, no_comma_from as usize) as u32
     }
 
     /// Replaces the cell at place `i` of neutral. Neither the old nor the new one may be a call mark.
@@ -142,6 +152,11 @@ impl<'a> Space<'a> {
     pub fn write_neutral(&mut self, i: u32, cell: Cell)
     {
         self.cells[(self.store + i) as usize] = cell;
+        self.no_comma_from = if holds_comma(&cell) {
+            self.no_comma_from.max(i + 1)
+        } else {
+            self.no_comma_from
+        };
     }
 
     /// Takes the tags off the cells of neutral from place `a` up to `b`.
@@ -156,6 +171,7 @@ impl<'a> Space<'a> {
     {
         self.neutral = 0;
         self.top_frame = 0;
+        self.no_comma_from = 0;
     }
 
     /// Removes all but the first `n` cells of neutral. Looks at each call mark that it removes.
@@ -165,6 +181,7 @@ impl<'a> Space<'a> {
         let top_frame = self.frame_before(n);
         self.top_frame = top_frame;
         self.neutral = n;
+        self.no_comma_from = n;
     }
 
     /// Removes the cells of neutral from place `a` up to `b`. No call mark may stand behind them.
@@ -174,8 +191,10 @@ impl<'a> Space<'a> {
         let end = (self.store + self.neutral) as usize;
         let to = (self.store + a) as usize;
         let top_frame = self.frame_before(a);
+        let rest = self.neutral - (b - a);
         copy_cells(self.cells, start, end, to);
-        self.neutral -= b - a;
+        self.neutral = rest;
         self.top_frame = top_frame;
+        self.no_comma_from = rest;
     }
 }

@@ -1,9 +1,7 @@
-use Rattle.trac_core.proofs.Imports.{◌≡◌, ◌≢◌, ◌≤◌, ◌+◌, ◌-◌, AsksFor, refl, sym, ap, ◌∙◌, subst, arith, ⊎_elim, inl, inr, None, length-drop, Contents, memory_of, turning, Driven, Stage, stage, standing, advanced_to, PerformedFor, HasNoCommaFrom}
+use Rattle.trac_core.proofs.Imports.{◌≡◌, ◌≢◌, ◌≤◌, ◌+◌, ◌-◌, AsksFor, refl, sym, ap, ◌∙◌, subst, arith, ⊎_elim, inl, inr, None, Contents, memory_of, turning, Driven, Stage, stage, standing, advanced_to, PerformedFor}
 use Rattle.trac_core.specs.StepsInRow.{idling_begun}
 use Rattle.trac_core.proofs.RunningOn.{need-fits, need-counted}
-use Rattle.trac_core.proofs.ReadInPlace.{begun-no_comma}
 use Rattle.trac_core.proofs.Advancing.{so_far, IsDriven, machine_in, drive-run, drive-step, drive-read, drive-idling, drive-stays, drive-ends, least-of}
-use Rattle.trac_core.specs.declared.run_hints.RunHints.{RunHints}
 use Rattle.trac_core.proofs.machine.advancing.go_on.Goals.{in-Some+in_default-fate, in_default}
 use Rattle.trac_core.proofs.machine.advancing.go_on.Goals as goal
 
@@ -22,7 +20,6 @@ loop-left-preserved-in-Ok g c =
       wanted = i.wanted;
       sound = h.keeps.sound;
       room = h.keeps.room ∙ i.room;
-      no_comma_from = h.no_comma_from;
       peak = rw (c.max-peak.ensures, h.keeps.room) (need-fits c.loop-left.need _ c.loop-left.peak old.room fits i.peak i.need);
       need = need-counted c.in-Ok.done c.loop-left.need c.loop-left.peak c.max-peak.result old new some.passes i.need c.max-peak.ensures;
       ready = i.ready;
@@ -46,7 +43,7 @@ returns-in-Err-perform-clause-driven g c = λ stops.
     let here = so_far at (c.min-reach.result - c.loop-left.left) c.loop-left.peak in
     let goes = subst (λ w. IsDriven performed start stops c.args.at (so_far (record at { contents = w }) here.done here.peak)) (sym c.in-Err.ensures.comes.0) (i.goes stops) in
     subst (λ (s : Stage g.row.I.Denot g.row.O.Denot). Driven performed declines c.args.most to.progress.done start (standing (advanced_to stops s.contents s.meta c.args.at to) s.source s.sink)) (sym h.same)
-    (drive-stays performed start stops c.args.at declines c.args.most c.scan_steps.new.hints.no_comma_from c.in-Err-perform.function to here c.going.ensures (inr (inr h.declined)) goes)
+    (drive-stays performed start stops c.args.at declines c.args.most c.in-Err-perform.function to here c.going.ensures (inr (inr h.declined)) goes)
 
 pub returns-clause-driven : goal.returns-clause-driven
 returns-clause-driven g c = λ stops.
@@ -56,7 +53,7 @@ returns-clause-driven g c = λ stops.
     let at = stage c.loop-left.work c.loop-left.meta c.loop-left.source c.loop-left.sink in
     let all : c.min-reach.result ≡ c.min-reach.result - c.loop-left.left = omega (arith, c.loop-left-test.false) in
     let why = least-of c.args.most (c.args.at.allowance - c.args.at.steps) c.min-reach.result c.min-reach.ensures in
-    drive-stays performed start stops c.args.at (g.P.Performer.declines c.args.performer) c.args.most c.loop-left.hints.no_comma_from None c.going-2.result (so_far at c.min-reach.result c.loop-left.peak)
+    drive-stays performed start stops c.args.at (g.P.Performer.declines c.args.performer) c.args.most None c.going-2.result (so_far at c.min-reach.result c.loop-left.peak)
     c.going-2.ensures (⊎_elim inl (λ rest. inr (inl (omega (arith, rest, i.allowed, c.requires.steps)))) why)
     (subst (λ done. IsDriven performed start stops c.args.at (so_far at done c.loop-left.peak)) (sym all) (i.goes stops))
 
@@ -83,7 +80,7 @@ returns-in-Some-fate-clause-driven g c = λ stops.
     let step = subst (λ fate. PerformedFor performed fate read.need begun.at new) c.in-Some-fate.is
     (subst (λ middle. PerformedFor performed read.fate read.need begun.at (record new { contents = middle })) (sym (r.ends some)) r.step) in
     drive-ends performed start stops c.args.at (g.P.Performer.declines c.args.performer) c.args.most read.need c.in-Some-fate.fate c.over.result begun new
-    (record { room = c.in-Some.ensures.keeps.room; allowed = omega (arith, i.allowed, i.few, left, may.0, c.in-Some.ensures.some refl); few = omega (arith, i.wanted, i.few, left, may.0, c.in-Some.ensures.some refl); step = step; told = λ i. record { progress = c.over.ensures.progress i; no_comma_from = c.over.result.no_comma_from; steps = counts.0 i; peak = counts.1 i; fate = c.over.ensures.fate i } }) goes
+    (record { room = c.in-Some.ensures.keeps.room; allowed = omega (arith, i.allowed, i.few, left, may.0, c.in-Some.ensures.some refl); few = omega (arith, i.wanted, i.few, left, may.0, c.in-Some.ensures.some refl); step = step; told = λ i. record { progress = c.over.ensures.progress i; steps = counts.0 i; peak = counts.1 i; fate = c.over.ensures.fate i } }) goes
 
 pub loop-left-preserved-then-may_begin_idling : goal.loop-left-preserved-then-may_begin_idling
 loop-left-preserved-then-may_begin_idling g c =
@@ -100,11 +97,6 @@ loop-left-preserved-then-may_begin_idling g c =
       | in-Some+in_default-fate w ↦ omega (arith, w.peak-is, w.max-peak-in-Some.ensures, top, w.in-Some.ensures.fits, c.in-Err-Idling.ensures.keeps.room)
       | in_default w ↦ omega (arith, w.peak-is, top)
     ] in
-    let no_comma : HasNoCommaFrom 4 c.idle.new.work.neutral =
-    elim c.match-idle.branch [
-      | in-Some+in_default-fate w ↦ w.in-Some.ensures.no_comma_from w.in_default-fate.is
-      | in_default w ↦ rw (w.in_default.ensures.begun refl).0 (begun-no_comma c.scan_steps.new.work)
-    ] in
     let ready : g.P.Performer.ready c.idle.new.source c.loop-left.sink =
     elim c.match-idle.branch [
       | in-Some+in_default-fate w ↦ w.in-Some.ensures.ready w.in_default-fate.is
@@ -116,7 +108,6 @@ loop-left-preserved-then-may_begin_idling g c =
       wanted = i.wanted;
       sound = keeps.sound;
       room = keeps.room ∙ c.in-Err-Idling.ensures.keeps.room ∙ i.room;
-      no_comma_from = rw c.new-hints-in-Err-Idling.ensures no_comma;
       peak = omega (arith, keeps.room, c.in-Err-Idling.ensures.keeps.room, peak);
       need = inl c.used-need-in-Err-Idling.ensures.value;
       ready = ready;
@@ -154,14 +145,13 @@ returns-in-Some-fate-2-clause-driven g c = λ stops.
     let last = c.in-Ok-perform.last in
     let counts = c.over-in-Some-fate-2.ensures.counts (machine_in performed start stops c.args.at here) (memory_of new.meta new.contents) refl refl in
     drive-ends performed start stops c.args.at (g.P.Performer.declines c.args.performer) c.args.most last.need c.in-Some-fate-2.fate c.over-in-Some-fate-2.result here new
-    (record { room = h.keeps.room; allowed = omega (arith, i.allowed, i.few, c.loop-left-test.true); few = omega (arith, i.wanted, i.few, c.loop-left-test.true); step = subst (λ fate. PerformedFor performed fate last.need at new) c.in-Some-fate-2.is h.done; told = λ i. record { progress = c.over-in-Some-fate-2.ensures.progress i; no_comma_from = c.over-in-Some-fate-2.result.no_comma_from; steps = counts.0 i; peak = counts.1 i; fate = c.over-in-Some-fate-2.ensures.fate i } }) goes
+    (record { room = h.keeps.room; allowed = omega (arith, i.allowed, i.few, c.loop-left-test.true); few = omega (arith, i.wanted, i.few, c.loop-left-test.true); step = subst (λ fate. PerformedFor performed fate last.need at new) c.in-Some-fate-2.is h.done; told = λ i. record { progress = c.over-in-Some-fate-2.ensures.progress i; steps = counts.0 i; peak = counts.1 i; fate = c.over-in-Some-fate-2.ensures.fate i } }) goes
 
 pub loop-left-preserved : goal.loop-left-preserved
 loop-left-preserved g c =
     let i = c.loop-left.invariant in
     let h = c.in-Ok-perform.ensures in
     let none = c.in_default-fate-2.is in
-    let len = ap (λ (h : RunHints). h.no_comma_from) c.new-hints-in-Err.ensures ∙ c.neutral_len.ensures.value in
     let peak_is = c.max-peak-in-Err.ensures in
     let performed = g.P.Performer.performed c.args.performer in
     let at = stage c.scan_steps.new.work c.loop-left.meta c.loop-left.source c.loop-left.sink in
@@ -172,7 +162,6 @@ loop-left-preserved g c =
       wanted = i.wanted;
       sound = h.keeps.sound;
       room = h.keeps.room ∙ c.in-Err.ensures.keeps.room ∙ i.room;
-      no_comma_from = λ k d within. absurd (omega (arith, len, length-drop c.new-hints-in-Err.result.no_comma_from c.perform.new.work.neutral));
       peak = omega (arith, h.keeps.room, c.in-Err.ensures.keeps.room, h.fits, i.peak, peak_is);
       need = inl c.used-need-in-Err.ensures.value;
       ready = h.ready none;

@@ -1,4 +1,4 @@
-use Rattle.trac_core.proofs.Imports.{◌≡◌, ◌≤◌, ◌+◌, ◌-◌, ◌⊎◌, Bool, IsSound, used, HasNoCommaFrom, turning, stage, standing}
+use Rattle.trac_core.proofs.Imports.{◌≡◌, ◌≤◌, ◌+◌, ◌-◌, ◌⊎◌, Bool, IsSound, used, turning, stage, standing}
 use Rattle.trac_core.proofs.Advancing.{IsDriven, so_far}
 use Rattle.trac_core.proofs.machine.advancing.go_on.Given as goal
 
@@ -11,7 +11,6 @@ invariant-loop-left g l =
       wanted : l.reach ≤ l.most;
       sound : IsSound l.work;
       room : l.work.room ≡ l.fn.work.room;
-      no_comma_from : HasNoCommaFrom l.hints.no_comma_from l.work.neutral;
       peak : l.peak ≤ l.work.room;
       need : (l.need ≡ used l.work) ⊎ ((used l.work ≤ l.peak) × (l.need ≤ l.peak));
       ready : g.P.Performer.ready l.source l.sink;

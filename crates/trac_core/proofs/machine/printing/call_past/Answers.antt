@@ -7,5 +7,5 @@ pub returns-then-not-displays-clause-past : goal.returns-then-not-displays-claus
 returns-then-not-displays-clause-past c = λ meta input.
     let w = c.args.work.now in
     let least : length w.neutral ≤ c.args.free = omega (arith, c.if-from-free.true, c.neutral_len.ensures.value, c.from.ensures) in
-    let less = prints-no-more w.neutral c.args.call.place (world w.forms meta input) (function_at w.neutral c.args.call.place) (λ displays. c.displays.ensures (grind (arith, common_steps)) (c.requires.named ∙ displays)) in
+    let less = prints-no-more w.neutral c.args.place (world w.forms meta input) (function_at w.neutral c.args.place) (λ displays. c.displays.ensures (grind (arith, common_steps)) (c.requires.named ∙ displays)) in
     omega (arith, least, less)

@@ -28,6 +28,6 @@ returns-clause-gone c =
 pub returns-clause-sound : goal.returns-clause-sound
 returns-clause-sound c = (invariant_of-self c).sound
 
-pub mark_all-first-requires-clause-no_comma_from : goal.mark_all-first-requires-clause-no_comma_from
-mark_all-first-requires-clause-no_comma_from c =
+pub mark_all-first-requires-clause-none_before : goal.mark_all-first-requires-clause-none_before
+mark_all-first-requires-clause-none_before c =
     none-marked c.self.inside.space c.self.inside.count c.self.inside.last.number c.self.inside.last.start c.self.invariant

@@ -24,4 +24,4 @@ returns-clause-left c =
     let w = c.args.work.now in
     let a = c.args.self.now in
     taken-left w a _ c.requires.arguments c.requires.some
-    (behind-first w a c.requires.some _ c.neutral_part.ensures 2 (c.in-Some.ensures.two refl)) refl refl
+    (behind-first w a c.requires.some _ c.neutral_part.ensures 2 (c.in-Some.ensures.two refl)) refl

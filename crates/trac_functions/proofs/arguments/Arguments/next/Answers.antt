@@ -30,4 +30,4 @@ returns-clause-later c = λ k.
 pub returns-clause-left : goal.returns-clause-left
 returns-clause-left c =
     taken-left c.args.work.now c.args.self.now _ c.requires (omega arith)
-    (rw c.end_of_next-to.ensures refl) refl refl
+    (rw c.end_of_next-to.ensures refl) refl

@@ -21,4 +21,4 @@ invariant_of-self c =
     let h = c.self.invariant in
     let size = sizes h c.self.view_is in
     let moved = parts-put_last h c.blank.new.cells _ (omega (arith, ap length c.blank.ensures, length-replicate (length (take (length s.cells.now - s.end) (drop s.end s.cells.now))) (Byte 0), length-take (length s.cells.now - s.end) (drop s.end s.cells.now), length-drop s.end s.cells.now)) refl in
-    tagged _ h moved refl (omega arith) (omega arith) h.calls h.linked
+    tagged _ h moved refl (omega arith) (omega arith) h.calls h.linked h.no_comma

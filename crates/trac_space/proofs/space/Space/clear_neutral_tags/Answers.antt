@@ -3,6 +3,7 @@ use Rattle.trac_space.specs.Tags.{untagged}
 use Rattle.trac_space.proofs.BlockChanges.{sizes, shown, maps, tagged, parts-in_neutral, parts_of, neutral-part}
 use Rattle.trac_space.proofs.Calls.{marks-cleared, marks-calls, marks-linked}
 use Rattle.trac_space.proofs.Cleared.{seen-untagged}
+use Rattle.trac_space.proofs.CommaPlaces.{no_comma-untagged, untagged-cleared}
 use Rattle.trac_space.proofs.space.Space.clear_neutral_tags.Goals as goal
 use Rattle.trac_space.proofs.space.Space.clear_neutral_tags.Goals.{After-clear_tags}
 
@@ -24,7 +25,7 @@ returns c =
     let is = cleared k in
     rw (← c.self.view_is) (shown _ moved ∙ rw is (simp (maps, seen-untagged)))
 
--- call marks stay
+-- call marks stay, and comma marks
 pub invariant_of-self : goal.invariant_of-self
 invariant_of-self c =
     let k = (goal.at.invariant_of-self c).After-clear_tags in
@@ -34,4 +35,4 @@ invariant_of-self c =
     let is = cleared k in
     let moved = parts-in_neutral h c.args.a c.args.b _ _ c.requires.order (omega (arith, c.requires.within, size.neutral)) (ap length is ∙ long k) refl in
     let same = marks-cleared neutral c.args.a c.args.b c.requires.order in
-    tagged _ h moved refl (omega arith) (omega arith) (rw is (marks-calls neutral _ same _ h.calls)) (rw is (marks-linked neutral _ same h.linked))
+    tagged _ h moved refl (omega arith) (omega arith) (rw is (marks-calls neutral _ same _ h.calls)) (rw is (marks-linked neutral _ same h.linked)) (rw is (no_comma-untagged neutral _ h.no_comma _ (untagged-cleared neutral c.args.a c.args.b c.requires.order)))

@@ -23,4 +23,4 @@ invariant_of-self c =
     let size = sizes h c.self.view_is in
     let long = ap length c.write_bytes.ensures ∙ length-map c.args.text.now Byte in
     let moved = parts-load h c.write_bytes.new.cells _ (length c.args.text.now) long (omega arith) refl in
-    tagged _ h moved refl (omega arith) (omega arith) h.calls h.linked
+    tagged _ h moved refl (omega arith) (omega arith) h.calls h.linked h.no_comma

@@ -120,11 +120,11 @@ invariant_of-self c =
     let n = s.end - s.active - c.in-Some.start in
     let n_is : length (more k) ≡ n = omega (arith, start) in
     let moved = parts-more h (more k) c.fill_cells.new.cells n c.in-Some.start n_is (omega (arith, start, fits)) low (record { len = put.len; front = put.front }) put.put.2 in
-    tagged _ h moved refl (omega (arith, fits, low, start, n_is)) (omega (arith, behind)) h.calls h.linked
+    tagged _ h moved refl (omega (arith, fits, low, start, n_is)) (omega (arith, behind)) h.calls h.linked h.no_comma
 
 pub invariant_of-self-in-None : goal.invariant_of-self-in-None
 invariant_of-self-in-None c =
     let h = c.self.invariant in
     let fits = h.fits in
     let put = c.in-None.ensures in
-    tagged _ h (parts-kept h c.fill_cells.new.cells (record { len = put.len; front = put.front }) put.behind) refl (omega (arith, fits)) (omega (arith, h.behind)) h.calls h.linked
+    tagged _ h (parts-kept h c.fill_cells.new.cells (record { len = put.len; front = put.front }) put.behind) refl (omega (arith, fits)) (omega (arith, h.behind)) h.calls h.linked h.no_comma

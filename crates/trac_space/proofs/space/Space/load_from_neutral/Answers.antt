@@ -25,4 +25,4 @@ invariant_of-self c =
     let size = sizes h c.self.view_is in
     let end : (s.store + c.args.a) + (c.args.b - c.args.a) ≡ (s.store + c.args.b) = omega arith in
     let moved = parts-before h (s.store + c.args.a) (s.store + c.args.b) (c.args.b - c.args.a) _ (omega arith) (omega arith) (omega arith) (c.copy_apart.ensures.after ∙ ap (λ j. copy_within s.cells.now (s.store + c.args.a) j (s.end - (s.active + (c.args.b - c.args.a)))) end) in
-    tagged _ h moved refl (omega arith) (omega arith) h.calls h.linked
+    tagged _ h moved refl (omega arith) (omega arith) h.calls h.linked h.no_comma

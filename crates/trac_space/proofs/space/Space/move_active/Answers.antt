@@ -21,4 +21,4 @@ invariant_of-self c =
     let size = sizes h c.self.view_is in
     let room = c.room.ensures.value ∙ size.room in
     let moved = parts-move_active h c.args.n _ (omega arith) (rw room at c.copy_cells.ensures.after) in
-    rw room (tagged _ h moved refl (omega arith) (omega arith) h.calls h.linked)
+    rw room (tagged _ h moved refl (omega arith) (omega arith) h.calls h.linked h.no_comma)

@@ -14,4 +14,4 @@ invariant_of-self c =
     let h = c.self.invariant in
     let size = sizes h c.self.view_is in
     let moved = parts-move_in_store h c.args.a c.args.b c.args.to _ c.requires.order (omega arith) c.requires.before c.copy_cells.ensures.after in
-    tagged _ h moved refl (omega arith) (omega arith) h.calls h.linked
+    tagged _ h moved refl (omega arith) (omega arith) h.calls h.linked h.no_comma

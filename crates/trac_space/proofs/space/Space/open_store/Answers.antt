@@ -19,4 +19,4 @@ invariant_of-self c =
     let h = c.self.invariant in
     let size = sizes h c.self.view_is in
     let moved = parts-open h c.args.n c.copy_higher.new.cells (omega (arith, c.requires)) c.copy_higher.ensures.after in
-    tagged _ h moved refl (omega arith) (omega arith) h.calls h.linked
+    tagged _ h moved refl (omega arith) (omega arith) h.calls h.linked h.no_comma

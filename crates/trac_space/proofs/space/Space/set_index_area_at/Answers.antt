@@ -15,4 +15,4 @@ invariant_of-self c =
     let h = c.self.invariant in
     let size = sizes h c.self.view_is in
     let moved = parts-write_index_area h c.args.i c.args.cell (omega arith) in
-    tagged _ h moved refl (omega arith) (omega arith) h.calls h.linked
+    tagged _ h moved refl (omega arith) (omega arith) h.calls h.linked h.no_comma

@@ -4,7 +4,8 @@ use Rattle.trac_space.proofs.BlockChanges.{sizes, shown, tagged, parts-in_neutra
 use Rattle.trac_space.proofs.Calls.{marks-numbered, marks-calls, marks-linked}
 use Rattle.trac_space.proofs.TaggedCommas.{Takes}
 use Rattle.trac_space.proofs.Cleared.{in-middle, numbers-middle, numbers-seen}
-use Rattle.trac_space.proofs.SeenParts.{takes-from-seen, all-numbered-seen, commas-seen, no_comma_from-last}
+use Rattle.trac_space.proofs.SeenParts.{takes-from-seen, all-numbered-seen, commas-seen}
+use Rattle.trac_space.proofs.CommaPlaces.{no_comma-part, no_comma-untagged, untagged-tagged}
 use Rattle.trac_space.proofs.space.Space.tag_commas.Goals as goal
 use Rattle.trac_space.proofs.space.Space.tag_commas.Goals.{After-tag_commas, After-self}
 
@@ -37,8 +38,7 @@ pub tag_commas-requires-clause-no_comma_from : goal.tag_commas-requires-clause-n
 tag_commas-requires-clause-no_comma_from c =
     let k = (goal.at.tag_commas-requires-clause-no_comma_from c).After-self in
     let n = c.min.result - c.args.first in
-    let none = subst (λ (l : Lists). NoComma (slice_range l.neutral c.args.no_comma_from c.args.end)) (sym c.self.view_is) c.requires.no_comma_from in
-    subst (λ l. NoComma (drop n l)) (sym (part_is k)) (no_comma_from-last (parts_of c.self.inside).neutral c.args.first c.args.end c.args.no_comma_from n (omega (arith, c.min.ensures, c.max.ensures, c.requires.order)) (λ less. omega (arith, c.min.ensures, c.max.ensures, c.requires.order, less)) none)
+    subst (λ l. NoComma (drop n l)) (sym (part_is k)) (no_comma-part (parts_of c.self.inside).neutral c.self.inside.no_comma_from c.args.first c.args.end n (λ less. omega (arith, c.min.ensures, c.max.ensures, c.requires.order, less)) c.self.invariant.no_comma)
 
 same_under : (c : After-tag_commas) → slice_range c.self.inside.cells.now (c.self.inside.store + c.args.first) (c.self.inside.store + c.args.end) ≡ slice_range (parts_of c.self.inside).neutral c.args.first c.args.end → map untagged c.tag_commas.new.cells ≡ slice_range (parts_of c.self.inside).neutral c.args.first c.args.end
 same_under c is = c.tag_commas.ensures.same ∙ is
@@ -85,7 +85,7 @@ returns-clause-same c =
     let view = shown c.self.inside.active moved in
     rw (← c.self.view_is) (view ∙ ap (λ cells. record (lists c.self.inside) { neutral = cells }) (sym (ap (λ (l : Lists). l.neutral) view)))
 
--- no call mark comes or goes
+-- no call mark comes or goes, nor a comma mark
 pub invariant_of-self : goal.invariant_of-self
 invariant_of-self c =
     let at = goal.at.invariant_of-self c in
@@ -96,4 +96,4 @@ invariant_of-self c =
     let moved = parts-in_neutral h c.args.first c.args.end _ _ c.requires.order (omega (arith, c.requires.within, size.neutral)) (long at.After-tag_commas is) refl in
     let raw = numbers-middle neutral c.tag_commas.new.cells c.args.first c.args.end c.requires.order (omega (arith, c.requires.within, size.neutral, size.cells)) (long at.After-tag_commas is) is in
     let same = marks-numbered neutral _ c.args.first c.args.end c.requires.order raw in
-    tagged _ h moved refl (omega arith) (omega arith) (marks-calls neutral _ same _ h.calls) (marks-linked neutral _ same h.linked)
+    tagged _ h moved refl (omega arith) (omega arith) (marks-calls neutral _ same _ h.calls) (marks-linked neutral _ same h.linked) (no_comma-untagged neutral c.self.inside.no_comma_from h.no_comma _ (untagged-tagged neutral _ c.args.first c.args.end c.requires.order raw))

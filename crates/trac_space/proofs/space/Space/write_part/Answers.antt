@@ -16,4 +16,4 @@ invariant_of-self c =
     let size = sizes h c.self.view_is in
     let end : c.self.inside.store + c.args.a + (c.args.b - c.args.a) ≡ c.self.inside.store + c.args.b = omega arith in
     let moved = parts-tag_of h c.args.at c.args.a c.args.b _ c.requires.order (omega arith) (omega arith) (rw end at c.copy_apart.ensures.after) in
-    tagged _ h moved refl (omega arith) (omega arith) h.calls h.linked
+    tagged _ h moved refl (omega arith) (omega arith) h.calls h.linked h.no_comma

@@ -1,6 +1,6 @@
 use Rattle.std.proofs.Common.{◌∙◌, ◌-◌, ap, drop, length, refl}
 use Rattle.trac_warnings.proofs.Keeping.{on_ok}
-use Rattle.trac_warnings.specs.Looked.{around_of, is_inside, places_of}
+use Rattle.trac_warnings.specs.Looked.{around_of, is_inside, is_last, places_of}
 use Rattle.trac_warnings.proofs.watch.Watch.look_at_call.Goals as goal
 
 pub returns-clause-looks : goal.returns-clause-looks
@@ -18,6 +18,7 @@ returns-clause-looks g c =
           places = c.places_of.result;
           around = c.arguments_around.result;
           is_inside = c.is_inside-is_inside.result;
+          is_last = c.is_last-is_last.result;
           input = c.args.input;
         },
         (
@@ -29,6 +30,7 @@ returns-clause-looks g c =
               places_are = c.places_of.ensures ∙ ap (λ t. drop (length t - c.commas_in.result) t) c.deref.ensures.value ∙ ap (λ n. drop (length commas - n) commas) c.commas_in.ensures ∙ ap (places_of commas) given;
               around_is = c.arguments_around.ensures ∙ ap (λ o. around_of o neutral c.args.mark) c.call_mark.ensures;
               inside_is = c.is_inside-is_inside.ensures ∙ ap (is_inside c.args.self.now) begin;
+              last_is = c.is_last-is_last.ensures ∙ ap (λ place. is_last place c.args.input.now) c.origin.ensures;
               input_is = refl;
             },
             warns,

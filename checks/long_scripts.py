@@ -1,0 +1,89 @@
+"""Scripts for covering.c that make the lists and the trees of the engine long, which hold names, warnings and rows:
+many forms and many wrong calls, in several orders, and long names that begin alike. And scripts with what others rarely
+have: calls of each function with few arguments and with null ones, and texts that end calls of the text before them."""
+from itertools import product
+from random import Random
+
+from scripts import FUNCTIONS
+
+# The beginning of names of which more than 64 characters are the same.
+ALIKE = b'a name that is long, and of which the first characters are those of others '.replace(b',', b' ')
+MANY = 900
+# Arguments, which a call has some of.
+ARGUMENTS = b'', b'a', b'12', b'ab', b'-3'
+# Forms that calls may name: one has the null name.
+FORMS = b"#(ds,,ab12ba)#(ds,a,12-3ab)#(ds,12,a(b)c)#(ds,ab,Ab,c)#(ss,a,b)#(ss,,b)"
+# Meta characters and characters of names that are shown in their own way.
+SHOWN = b'\t', b'\n', b'\r', b'\\', b'\0', b'\x7f', b'\x80', b'\xff', b' '
+
+
+def orders(count):
+    """The numbers below `count`: up, down, from both ends, and in an order that looks random."""
+    up = list(range(count))
+    ends = [number for pair in zip(up, reversed(up)) for number in pair][:count]
+    return up, up[::-1], ends, Random(1).sample(up, count)
+
+
+def many(text):
+    """A text with each of many numbers, in four orders."""
+    return [b''.join(text % number for number in order) for order in orders(MANY)]
+
+
+def long_names():
+    """Forms and calls whose names begin alike, of which some are the beginning of others."""
+    names = [ALIKE[:length] + end for length in (7, 8, 9, 15, 63, 64, 65, 72) for end in (b'', b'a', b'b', b'ab')]
+    calls = [b'#(ds,%b,x)', b'#(cl,%b)', b'#(%b)', b'#(dd,%b)#(ds,%b,y)']
+    return [b"'".join(call.replace(b'%b', name) for name in order) + b"'#(cl,%b)'#(da)'" % names[-1]
+            for call in calls for order in (names, names[::-1], Random(1).sample(names, len(names)))]
+
+
+def texts_alike():
+    """Calls that stand at one place of a form and whose names differ behind the first characters."""
+    call = b"#(ds,f,(%b))#(ds,n,%b)#(cl,f)#(cl,f)#(cl,f)#(cl,f)#(cl,f)#(cl,f)'"
+    parts = b'#(cc,n)', b'#(cn,n,2)', b'#(cs,n)', b'##(cc,n)##(cc,n)'
+    return [call % (b'#(%b%b%b)' % (function, ALIKE[:length], part), text)
+            for function in (b'cl,', b'', b'ps,#(cl,', b'ad,1,') for length in (1, 7, 8, 64, 70) for part in parts
+            for text in (b'abcdefgh', b'aabbccdd'[:5])]
+
+
+def few_arguments():
+    """Calls of each function with some arguments, alone and in a call around it."""
+    found = []
+    for function in FUNCTIONS:
+        calls = [b','.join((function.encode(), *some))
+                 for count in range(4) for some in product(ARGUMENTS, repeat=count)]
+        text = b"".join(b"#(%b)'#(ps,(#(%b)))'" % (call, call) for call in calls[:40])
+        found += [FORMS + b"'" + text, FORMS + b''.join(b"##(%b)'" % call for call in calls[40:])]
+    return found
+
+
+def ended_by_others():
+    """Strings whose calls are ended by the strings that they read."""
+    loop = b"#(ds,A,(#(cl,A)x))#(cl,A)'"
+    return [begin + b"#(rs)'" + end + rest for begin in (b'#(ps,', b'#(ps,#(eq,', b'#(cl,#(ps,#(ad,', b'##(')
+            for end in (b')', b'a))', b'))))', b',') for rest in (b"'", loop, b'#(rs)' + loop, b"#(hl)'", b"b#(zz)'c'")]
+
+
+def shown():
+    """Meta characters and names that are shown in their own way, where a run ends by a fault."""
+    return [b"#(ds,x%b%by,%b%b)#(cm,%b)'%b#(ds,%b,z)%b#(cl,x)#(ds,B,(#(cl,B)%b))#(cl,B)%b" % ((one,) * 10)
+            for one in SHOWN]
+
+
+def null_names():
+    """Calls of a form that has the null name and gaps, with fewer arguments than gaps."""
+    form = b"#(ds,,a1b2c3)#(ss,,1,2,3)%b#(cl,,x)#(cl,,x,y)'%b"
+    calls = b'', b'#(cl,)', b'#(CL,)', b'(cl,', b'#(cl,x)', b'#(ps,(cl,)', b'#(cl', b'#(dx,)'
+    return [form % (one, other) for one in calls for other in calls]
+
+
+def written():
+    """Texts with many warnings of how they are written, and no call that is performed."""
+    texts = b'#(ps ,x\n', b"#( ps,(x)'", b'# (ps,x)) ', b'#[ps,x]\t', b'#(PS,x\xe2\x80\x99', b'##ps,x)\r\n'
+    return [text * 60 for text in texts]
+
+
+def long_scripts():
+    """All of these scripts, but for those that are run with all memories."""
+    found = many(b"#(ds,%03d,)'") + many(b"#(cl,%03d)'") + many(b"#(q%03d)'")
+    return found + long_names() + texts_alike() + few_arguments() + ended_by_others() + shown() + null_names()

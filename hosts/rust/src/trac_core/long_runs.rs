@@ -1,0 +1,36 @@
+// Generated from crates/trac_core/src/long_runs.rt by hosts/rust/generate, and never edited.
+//! What the scanner remembers between the runs of characters that it moves.
+
+/// How many long runs followed one another last. Any number is right, since it only decides how the next run
+/// is moved.
+#[derive(Clone, Copy, Debug, PartialEq, Eq)]
+pub(crate) struct LongRuns {
+    count: u32,
+}
+
+impl LongRuns {
+    /// No long run came before.
+    #[inline(always)]
+    pub(crate) fn none() -> LongRuns
+    {
+        LongRuns { count: 0 }
+    }
+
+    /// Whether more than one long run followed one another, so that the next is likely to be long too.
+    #[inline(always)]
+    pub(crate) fn are_in_a_row(&self) -> bool
+    {
+        self.count > 1
+    }
+
+    /// Counts a run. One that is not long ends the long runs that followed one another.
+    #[inline(always)]
+    pub(crate) fn count_run(&mut self, is_long: bool)
+    {
+        self.count = if is_long {
+            self.count.saturating_add(1)
+        } else {
+            0
+        };
+    }
+}
