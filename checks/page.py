@@ -18,6 +18,8 @@ PAGE = os.path.join(TOP, 'build', 'trac.html')
 PLACE = 'file://' + PAGE
 MARKS = {256: '<#>', 257: '<##>', 258: '<,>'}
 ESCAPES = {9: '\\t', 10: '\\n', 13: '\\r', 92: '\\\\'}
+# A script that needs more than 2 ** 20 cells, and leaves no form: the page takes so large a block for no other run.
+LARGE = "#(ds,A,0123456789abcdef)#(ds,D,(#(ds,A,##(cl,A)##(cl,A))))" + 16 * '#(cl,D)' + '#(dd,A,D)'
 LOOP = "#(ds,loop,(#(gr,N,0,(#(cl,loop,#(su,N,1))))))#(ss,loop,N)#(cl,loop,{})'"
 
 # The content of a box, as codes: marks and escaped bytes have their own codes, text is UTF-8.

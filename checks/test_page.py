@@ -8,7 +8,7 @@ import unittest
 
 import page
 import pytest
-from page import LOOP, PLACE, By, Page, example
+from page import LARGE, LOOP, PLACE, By, Page, example
 from trac import TOP, report, traced
 from selenium.webdriver.common.keys import Keys
 
@@ -82,6 +82,18 @@ class Runs(Page):
                     script, '--cells', str(cells), '--steps', str(steps))
                 self.assertEqual((self.text('output'), self.steps()),
                                  (output.decode(), (done, done)))
+
+    def test_runs_that_outgrow_their_first_cells(self):
+        script = LARGE + "#(ps,##(eq,a,A,same,other))'"
+        for cells in (65535, 65536, 65537, 100000, 2 ** 20, 2 ** 20 + 1, 2 ** 23, 2 ** 24):
+            with self.subTest(cells=cells):
+                self.run_script(script, '', cells)
+                output, done, peak, status = report(script, '--cells', str(cells))
+                self.assertEqual((self.text('output'), self.steps()), (output.decode(), (done, done)))
+                self.assertIn(f'{done:,} steps, peak {peak:,} cells', self.text('fate'))
+                ends = 'Ended: all input is read.' if status == 0 else \
+                    f'Workspace full: the next step needs more than the {cells:,} cells there are.'
+                self.assertTrue(self.text('fate').startswith(ends), self.text('fate'))
 
     def test_limits_that_are_refused(self):
         self.run_script("#(ps,a)'")

@@ -7,7 +7,7 @@ import sys
 import unittest
 
 import page
-from page import LOOP, Lecture, example
+from page import LARGE, LOOP, Lecture, example
 from test_page_sentences import Maker
 from trac import TOP
 
@@ -228,7 +228,7 @@ class Places(Lecture):
         self.assertRegex(self.text('whence'), '^from the form “loop”|^from the value of')
 
     def test_a_large_block_is_not_followed(self):
-        self.run_script("#(ps,a)'", cells=2 ** 20 + 1)
+        self.run_script(f"{LARGE}#(ps,a)'", cells=2 ** 24)
         self.go(12)
         self.assertEqual(self.text('whence'), '')
         self.assertEqual(self.script("return CSS.highlights.get('here').size"), 0)

@@ -9,7 +9,7 @@ from collections import Counter
 from random import Random
 
 import page
-from page import By, Lecture, example
+from page import LARGE, By, Lecture, example
 from trac import TOP
 
 sys.path.insert(0, os.path.join(TOP, 'hosts', 'page'))
@@ -268,7 +268,7 @@ class Maker:
 class LargeBlocks(Lecture):
     def test_what_a_call_comes_to_is_left_open(self):
         calls = '#(cs,f)#(cc,f,z)#(cn,f,1)#(in,f,b,z)#(gr,1,2,x)#(ad,1,2)#(dd,f,g)#(rs)'
-        self.run_script(f"#(ds,f,aXbcd)#(ss,f,X,Q){calls}'", cells=2 ** 20 + 1)
+        self.run_script(f"{LARGE}#(ds,f,aXbcd)#(ss,f,X,Q){calls}'", cells=2 ** 24)
         said = self.walk("find('rule-name').textContent === 'end of call.' ? find('rule-says').textContent : ''")
         for words in ('In the form “f”, each “X” and “Q” that is found becomes a gap.',
                       'up to the next gap, or to its end.',

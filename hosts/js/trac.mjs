@@ -141,7 +141,8 @@ function whole(name, value, least, most) {
 }
 
 /**
- * The memory of a fresh instance, whose parts are allocated from the front.
+ * The memory of a fresh instance, whose parts are allocated from the front. Behind the module's own data, where they
+ * stand, each byte of a fresh memory is 0.
  */
 class Room {
     /** @param {WebAssembly.Instance} instance */
@@ -359,7 +360,7 @@ function checked(instance, script, room, allowed, lists, lines) {
     memory.reserve();
     const { exports } = memory;
     new Uint8Array(exports.memory.buffer, Number(input), script.length).set(script);
-    exports.trac_engine_check(report, block, room, allowed, input, BigInt(script.length),
+    exports.trac_engine_check_zeroed(report, block, room, allowed, input, BigInt(script.length),
         listed, BigInt(Math.floor(lists / LIST_UNIT)), written, BigInt(lines));
     const told = reportAt(exports.memory.buffer, report);
     const text = textOf(new Uint8Array(exports.memory.buffer, Number(written), told.written).slice());
@@ -679,7 +680,7 @@ export class Session {
         this.#trace = new Buffer(this.#memory);
         this.#lists = new Buffer(this.#memory);
         this.#lines = new Buffer(this.#memory);
-        if (this.#engine.trac_engine_open(this.#machine, this.#block, cells, steps) === REFUSED) {
+        if (this.#engine.trac_engine_open_zeroed(this.#machine, this.#block, cells, steps) === REFUSED) {
             throw new RangeError(`cells must be from 1 to ${MOST_CELLS}`);
         }
     }

@@ -161,14 +161,16 @@ export class History {
     /**
      * @param {Uint8Array} input the script and the input after it
      * @param {{cells: number, steps: number}} limits
+     * @param {number} cells those of its machines, at most as many as the limit
      */
-    static async of(input, limits) {
-        const walker = async () => new Walker(await Session.open(limits), input);
-        const isSmall = limits.cells <= MOST_PEEKED;
+    static async of(input, limits, cells) {
+        const block = { ...limits, cells };
+        const walker = async () => new Walker(await Session.open(block), input);
+        const isSmall = cells <= MOST_PEEKED;
         const peeker = isSmall ? await walker() : null;
         const shown = await walker();
         learnFunctions(shown.session);
-        const made = new History(shown, await walker(), peeker, limits);
+        const made = new History(shown, await walker(), peeker, limits, block);
         if (isSmall) made.origins = new Origins(made, await walker());
         return made;
     }
@@ -180,12 +182,14 @@ export class History {
      * @param {Walker | null} peeker the walker that is one step ahead; none if the block is so large that this takes
      * long
      * @param {{cells: number, steps: number}} limits
+     * @param {{cells: number, steps: number}} block the limits of its machines, which may have fewer cells
      */
-    constructor(shown, lister, peeker, limits) {
+    constructor(shown, lister, peeker, limits, block) {
         this.shown = shown;
         this.lister = lister;
         this.peeker = peeker;
         this.limits = limits;
+        this.block = block;
         /**
          * Where what is scanned was written; null if the block is so large that another machine takes long.
          * @type {Origins | null}
@@ -198,7 +202,7 @@ export class History {
         this.listed = 0;
         this.strings = new Strings();
         this.printings = new Printings();
-        this.kept = new Kept(shown.save(), limits.cells);
+        this.kept = new Kept(shown.save(), block.cells);
         /** After how many steps a run is stopped that nobody asked for. */
         this.most = Infinity;
         this.near = new Near();
@@ -220,6 +224,11 @@ export class History {
         this.stored = null;
         shown.onPrinted = (text) => this.end || this.output.push(text);
         shown.onString = (place) => this.end || this.strings.push(place);
+    }
+
+    /** Whether the run ended for want of cells though it may have more of them. */
+    get lacksCells() {
+        return this.end.fate === 'workspace' && this.block.cells < this.limits.cells;
     }
 
     /** Whether the run was stopped because nobody asked for more of it. */
@@ -303,7 +312,7 @@ export class History {
             if (stop === goal) this.noteNext();
             this.pace.advance(this.shown, stop, until);
             if (this.step < stop) return false;
-            if (stop < goal - 1 && this.limits.cells <= MOST_PEEKED) this.near.keep(this.shown.save());
+            if (stop < goal - 1 && this.block.cells <= MOST_PEEKED) this.near.keep(this.shown.save());
         }
         return true;
     }

@@ -272,8 +272,8 @@ export class Origins {
             this.pace.advance(walker, begin, until);
             if (walker.state.step < begin) return false;
             [this.active, this.neutral, this.forms, this.parts] = [null, null, null, null];
-            this.kept = new Kept(this.save(), history.limits.cells);
-            this.kept.apart = Math.max(STEPS_APART, Math.ceil(history.limits.cells / CELLS_A_STEP));
+            this.kept = new Kept(this.save(), history.block.cells);
+            this.kept.apart = Math.max(STEPS_APART, Math.ceil(history.block.cells / CELLS_A_STEP));
         }
         const nearest = this.near.before(step, this.kept.before(step));
         const here = walker.state.step;

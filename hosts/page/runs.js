@@ -9,6 +9,9 @@ import { changedForms } from './forms.js';
 import { History } from './history.js';
 import { pause } from './machines.js';
 
+const FIRST_CELLS = 65536;
+const MORE_CELLS = 16;
+
 /** @type {Record<string, (limits: {cells: number, steps: number}) => string>} */
 const FATES = {
     halted: () => 'Ended: the script called hl.',
@@ -70,7 +73,8 @@ export function stringWords(run) {
 }
 
 /**
- * Runs texts, to the end or until the run is stopped.
+ * Runs texts, to the end or until the run is stopped. A run that ends in few cells ends the same way in more of them, so
+ * its machines have few at first; only a run for which these don't suffice is made again with more.
  * @param {{script: string, input: string}} texts
  * @param {{cells: number, steps: number}} limits
  * @param {AbortSignal} signal
@@ -80,9 +84,12 @@ export function stringWords(run) {
  */
 export async function makeRun(texts, limits, signal, most, onStep = () => {}) {
     const input = bytesOfText(texts.script + texts.input);
-    const history = await History.of(input, limits);
-    history.most = most;
-    await history.run(signal, onStep);
+    let history;
+    for (let cells = FIRST_CELLS; !history || history.lacksCells; cells *= MORE_CELLS) {
+        history = await History.of(input, limits, Math.min(cells, limits.cells));
+        history.most = most;
+        await history.run(signal, onStep);
+    }
     const output = joinedRows(history.output);
     history.output = [];
     return { history, texts, input, output };

@@ -96,7 +96,7 @@ export class CallTree {
         const from = Math.max(0, index - AROUND);
         const to = Math.min(history.calls.length, index + AROUND);
         const { input } = this;
-        const session = this.walker?.session ?? await Session.open(history.limits);
+        const session = this.walker?.session ?? await Session.open(history.block);
         if (signal.aborted) return;
         this.walker ??= new Walker(session, input);
         const steps = Array.from({ length: to - from }, (_, at) => history.calls.at(from + at));
