@@ -101,6 +101,8 @@ def test_forms_from_outside(trac_t64):
     session.define(b't', 'xyz')
     assert [(form.name, form.text, form.items, form.pointer) for form in session.forms()] == [
         (b'f', b'a<^><1>b', (97, 256, 98), 1), (b't', b'<^>xyz', (120, 121, 122), 0)]
+    with pytest.raises(TypeError, match='body must be str, bytes or items, not int'):
+        session.define('w', 5)
     for wrong in (lambda: session.define('w', [2**24 + 256]), lambda: session.define('w', 'ab', 3),
                   lambda: session.define('w', 'a' * 40), lambda: session.define('w', [-1])):
         with pytest.raises(ValueError):

@@ -166,6 +166,16 @@ def _bytes_of(name: str, text: Text) -> bytes:
         raise ValueError(f'{name} has no UTF-8: {error.reason} at {error.start}') from None
 
 
+def _items_of(name: str, body: Text | Iterable[SupportsIndex]) -> Iterator[SupportsIndex]:
+    """The items of a body: the bytes of a text, or those that it has."""
+    if isinstance(body, (str, bytes, bytearray, memoryview)):
+        return iter(_bytes_of(name, body))
+    try:
+        return iter(body)
+    except TypeError:
+        raise TypeError(f'{name} must be str, bytes or items, not {type(body).__name__}') from None
+
+
 def _codes(numbers: bytes) -> tuple[int, ...]:
     return tuple(memoryview(numbers).cast('I'))
 
@@ -442,8 +452,7 @@ class Session:
         """Makes a form from a name, a body and a pointer. The body is a text, or items as `forms` gives them. The form
         becomes the last one, and an older form of that name is removed. Raises ValueError, with nothing changed, if an
         item or the pointer is out of range, or if the form doesn't fit beside the present contents."""
-        items = _bytes_of('body', body) if isinstance(body, (str, bytes, bytearray, memoryview)) else body
-        codes = array.array('I', [_whole('an item', item, 0, 2**32 - 1) for item in items])
+        codes = array.array('I', [_whole('an item', item, 0, 2**32 - 1) for item in _items_of('body', body)])
         self._machine.define(_bytes_of('name', name), codes.tobytes(), _whole('pointer', pointer, 0, MOST_CELLS))
 
     def delete(self, name: Text) -> bool:
