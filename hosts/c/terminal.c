@@ -579,7 +579,9 @@ static int run_typed(session *of) {
     int worst = DONE;
     if (from.is_terminal && !options[QUIET].number)
         (void)say_line(DONE, "TRAC T-64, trac_terminal %s: ^D ends, :help helps\n", trac_version());
-    return status_of(run_strings(of, &from, &worst));
+    const int status = status_of(run_strings(of, &from, &worst));
+    free(from.bytes.bytes);
+    return status;
 }
 
 /* Saves the forms if --save asks for it, and gives the status. If a file wasn't read, its forms are missing, so the
