@@ -10,7 +10,7 @@ import { History } from './history.js';
 import { pause } from './machines.js';
 
 const FIRST_CELLS = 65536;
-const MORE_CELLS = 16;
+const MORE_CELLS = 4;
 
 /** @type {Record<string, (limits: {cells: number, steps: number}) => string>} */
 const FATES = {
