@@ -83,7 +83,40 @@ def written():
     return [text * 60 for text in texts]
 
 
+def odd_places():
+    """A gap at the end of three characters, texts of ss that a value gave, and commas at the ends of strings: behind
+    which nothing stands, or a left parenthesis, of the script and of a value."""
+    return [b"#(ds,f,abc)#(ss,f,c)#(cl,f)'", b"#(ds,f,xyz)#(ds,g,(,abc))#(ss,f#(cl,g))'", b"#(ds,f,(a,))'#(cl,f'",
+            b"#(ps,#(rs)(x))'a,'", b"#(ds,f,(a,))#(ps,#(rs)(x))'#(cl,f)'"]
+
+
+def few_given():
+    """Calls with fewer arguments than gaps, of forms with names of several lengths and of one with the null name."""
+    names = [b'abcdefghijklmnopqrstu'[:length] for length in (5, 10, 20, 21)]
+    calls = b'#(ds,%b,abc)#(ss,%b,a,b,c)#(cl,%b,x)#(cl,%b,x,y)'
+    return [b''.join(calls.replace(b'%b', name) for name in names), b"#(ds,,abc)#(ss,,a,b)#(cl,,x)'"]
+
+
+def unknown_calls(count):
+    """Calls of so many names that no function has, in strings of ten."""
+    numbers = range(100, 100 + count)
+    return b"'".join(b''.join(b'#(q%d)' % number for number in numbers[at:at + 10]) for at in range(0, count, 10))
+
+
+def of_choices():
+    """Scripts for parts of memories.c that the last two bytes of their choices ask for: with little memory left at the
+    first step, in ample room, in none, and in so little that a string finds none; with lines that end at any place of
+    their list; and with all rooms and allowances."""
+    marked = [b"#(ds)'", b"#(a,#(b,#(c,#(d,#(e,#(f,#(g,#(h))))))))'", b"#(a,#(b,#(c,#('", b"#(a,b,c,d,'"]
+    tight = [b"#(rs)'", b"#(ds,aaaaaaaa,xxxxxxxxxxxxxxx)#(ds,bbbbbbbb,x)'"]
+    twice = b"#(ds,f,(%b))'#(cl,f)#(cl,f)'" % unknown_calls(70).replace(b"'", b'')
+    ended = unknown_calls(76) + b"'#(ds,A,(#(cl,A)xxxx))#(cl,A)'"
+    return ([b'\0\xff' + one for one in marked] + [b'\0\0' + marked[0]] + [b'\0\x0f' + one for one in tight]
+            + [b'\1\xff' + twice, b'\1\x58' + ended, b"\2\x0ax))y'"])
+
+
 def long_scripts():
     """All of these scripts, but for those that are run with all memories."""
     found = many(b"#(ds,%03d,)'") + many(b"#(cl,%03d)'") + many(b"#(q%03d)'")
-    return found + long_names() + texts_alike() + few_arguments() + ended_by_others() + shown() + null_names()
+    found += long_names() + texts_alike() + few_arguments() + ended_by_others() + shown() + null_names()
+    return found + odd_places()
