@@ -84,10 +84,16 @@ def written():
 
 
 def odd_places():
-    """A gap at the end of three characters, texts of ss that a value gave, and commas at the ends of strings: behind
-    which nothing stands, or a left parenthesis, of the script and of a value."""
-    return [b"#(ds,f,abc)#(ss,f,c)#(cl,f)'", b"#(ds,f,xyz)#(ds,g,(,abc))#(ss,f#(cl,g))'", b"#(ds,f,(a,))'#(cl,f'",
-            b"#(ps,#(rs)(x))'a,'", b"#(ds,f,(a,))#(ps,#(rs)(x))'#(cl,f)'"]
+    """A gap at the end of three characters and in the name of a call, a name up to the end of a form, texts of ss that
+    a value gave, an argument without a gap that a blank in a name explains, a call in one without a name, many open
+    calls at a fault, and commas at the ends of strings: behind which nothing stands, or a left parenthesis, of the
+    script and of a value."""
+    return [b"#(ds,f,abc)#(ss,f,c)#(cl,f)'", b"#(ds,f,xyz)#(ds,g,(,abc))#(ss,f#(cl,g))'",
+            b"#(ds,f,(#(aXb)))#(ss,f,X)#(ss,f,ab)'", b"#(ds,g,(()))#(ds,f,(#)##(cc,g)abc)#(ss,f,zz)'",
+            b"#(ds,A,(#(cl,A)x))#(ps,#(ps,#(ps,#(ps,#(cl,A)'", b"#(#(hl))'",
+            b"#(ds,f,abc)#(ss,f,a,b)#(cs,f)#(cr,f)#(cl,f,x)'", b"#(ds,abc,xyz)#(ss,abc,x,y)#(cl,abc,1)'(cl,ab",
+            b"#(ds,f,abc)#(ss, f,b)#(cl,f,x)'", b"#(ds,f,(a,))'#(rs'#(cl,f)'", b"#(ps,#(rs)(x))'a,'",
+            b"#(ds,f,(a,))#(ps,#(rs)(x))'#(cl,f)'"]
 
 
 def few_given():
@@ -107,7 +113,8 @@ def of_choices():
     """Scripts for parts of memories.c that the last two bytes of their choices ask for: with little memory left at the
     first step, in ample room, in none, and in so little that a string finds none; with lines that end at any place of
     their list; and with all rooms and allowances."""
-    marked = [b"#(ds)'", b"#(a,#(b,#(c,#(d,#(e,#(f,#(g,#(h))))))))'", b"#(a,#(b,#(c,#('", b"#(a,b,c,d,'"]
+    marked = [b"#(ds)'", b"#(a,#(b,#(c,#(d,#(e,#(f,#(g,#(h))))))))'", b"#(a,#(b,#(c,#('", b"#(a,b,c,d,'",
+              b"#(a,#(b,#(c,#(d,it's x'"]
     tight = [b"#(rs)'", b"#(ds,aaaaaaaa,xxxxxxxxxxxxxxx)#(ds,bbbbbbbb,x)'"]
     twice = b"#(ds,f,(%b))'#(cl,f)#(cl,f)'" % unknown_calls(70).replace(b"'", b'')
     ended = unknown_calls(76) + b"'#(ds,A,(#(cl,A)xxxx))#(cl,A)'"

@@ -50,13 +50,35 @@ def statement(source, number):
     return text + ' trap();' * (source[number].strip() == 'trap();')
 
 
+def around(source, number):
+    """The first line of the block that a line stands in, or the label before it."""
+    line = source[number - 1]
+    depth = len(line) - len(line.lstrip())
+    return next((other.strip() for other in source[number - 2::-1] if len(other) - len(other.lstrip()) < depth), '')
+
+
+def begun(source, number, function):
+    """The lines of a function in front of a line."""
+    first = next(place for place in range(number - 1, -1, -1) if re.match(rf'\S.*\b{function}\(', source[place]))
+    return '\n'.join(source[first:number - 1])
+
+
+def found_with(asked, found, text):
+    """Whether a text has what is asked for, with one of the variables that were found for @."""
+    return any(re.search(asked.replace('@', one), text) for one in found.groups() or ('@',) if one)
+
+
 def fits(source, number, function, asked):
     """Whether a line has a condition as it is asked for."""
     found = re.match(asked.functions, function) and re.search(asked.condition, statement(source, number))
     if not found or not re.search(asked.after, source[number].strip()):
         return False
+    if asked.within and not re.search(asked.within, around(source, number)):
+        return False
+    if asked.behind and not found_with(asked.behind, found, begun(source, number, function)):
+        return False
     front = '\n'.join(source[max(0, number - BEFORE):number - 1])
-    return not asked.before or any(re.search(asked.before.replace('@', one), front) for one in found.groups() if one)
+    return not asked.before or found_with(asked.before, found, front)
 
 
 def has_kind(source, number, function, asked):
