@@ -85,13 +85,16 @@ def written():
 
 def odd_places():
     """A gap at the end of three characters and in the name of a call, a name up to the end of a form, texts of ss that
-    a value gave, an argument without a gap that a blank in a name explains, a call in one without a name, many open
-    calls at a fault, and commas at the ends of strings: behind which nothing stands, or a left parenthesis, of the
-    script and of a value."""
+    a value gave, an argument without a gap that a blank in a name explains, a call in one without a name, numbers of
+    characters that one place drops, two forms of one place, many open calls at a fault, and commas at the ends of
+    strings: behind which nothing stands, or a left parenthesis, of the script and of a value."""
     return [b"#(ds,f,abc)#(ss,f,c)#(cl,f)'", b"#(ds,f,xyz)#(ds,g,(,abc))#(ss,f#(cl,g))'",
             b"#(ds,f,(#(aXb)))#(ss,f,X)#(ss,f,ab)'", b"#(ds,g,(()))#(ds,f,(#)##(cc,g)abc)#(ss,f,zz)'",
-            b"#(ds,A,(#(cl,A)x))#(ps,#(ps,#(ps,#(ps,#(cl,A)'", b"#(#(hl))'",
-            b"#(ds,f,abc)#(ss,f,a,b)#(cs,f)#(cr,f)#(cl,f,x)'", b"#(ds,abc,xyz)#(ss,abc,x,y)#(cl,abc,1)'(cl,ab",
+            b"#(ds,A,(#(cl,A)x))#(ps,#(ps,#(ps,#(ps,#(cl,A)'", b"#(#(hl))'", b"#[ps]'",
+            b"#(ds,g,(()))#(ds,f,##(cc,g)#(cr,g)##(cc,g)x)'#(cl,f)aaa'#(cl,f)bb'#(cl,f)cccc'",
+            b"#(ds,m,(#(ds,N,(#(zz)))))#(ss,m,N)#(cl,m,a)#(cl,m,b)#(cl,b)#(cl,a)#(cl,b)'",
+            b"#(ds,f,x)#(cs,f)#(eq,a#(cs,f),b,c,d)'",
+            b"#(ds,,abc)#(ss,,a,b)#(cs,)#(cr,)#(cl,,x)'", b"#(ds,abc,xyz)#(ss,abc,x,y)#(cl,abc,1)'(cl,abc",
             b"#(ds,f,abc)#(ss, f,b)#(cl,f,x)'", b"#(ds,f,(a,))'#(rs'#(cl,f)'", b"#(ps,#(rs)(x))'a,'",
             b"#(ds,f,(a,))#(ps,#(rs)(x))'#(cl,f)'"]
 
@@ -119,7 +122,7 @@ def of_choices():
     twice = b"#(ds,f,(%b))'#(cl,f)#(cl,f)'" % unknown_calls(70).replace(b"'", b'')
     ended = unknown_calls(76) + b"'#(ds,A,(#(cl,A)xxxx))#(cl,A)'"
     return ([b'\0\xff' + one for one in marked] + [b'\0\0' + marked[0]] + [b'\0\x0f' + one for one in tight]
-            + [b'\1\xff' + twice, b'\1\x58' + ended, b"\2\x0ax))y'"])
+            + [b'\1\xff' + twice, b'\1\x58' + ended, b"\2\x0ax))y'", b"\2\x0a#(rs)'))xy'"])
 
 
 def long_scripts():

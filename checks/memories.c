@@ -30,7 +30,8 @@ static size_t mark(size_t count, size_t marks, size_t named) {
     return length;
 }
 
-/* Puts the script behind a call of a name of so many characters, which the first line shows. Gives the length of all. */
+/* Puts the script behind a call of a name of so many characters, which the first line shows, and gives the length of
+ * both. */
 static size_t name(size_t count, size_t characters) {
     const size_t length = (size_t)sprintf((char *)filled, "#(%0*d)'", (int)characters + 1, 0);
     memcpy(filled + length, script + CHOICES, count - CHOICES);
