@@ -84,7 +84,7 @@ EXCLUDED = {
     'trap': Kind(
         'a place that the proofs exclude, as a divisor that is 0, or a cell in an index that is no number and no comma '
         '(`IsSound` of trac_forms)',
-        condition=r'\btrap\(\)'),
+        condition=r'\btrap\(\)', also=(having(KEEPING, r'^if \(load8\(p\d+\) == 1u\)$', '', r'^goto L\d+;$'),)),
     'null': Kind('a null pointer: `api.c` hands the exports pointers that are never null',
                  condition=r' == 0u \? 4096u : 0u\)'),
     'one chunk': Kind(
@@ -630,6 +630,15 @@ EXCLUDED = {
         'of the same place there: each character of the input is scanned once',
         functions='warnings_findings_count', condition=r'^if \(w\d+ != w\d+\) {$',
         before=r'\+ 16u\) == 1u\)\n *break;\n(.*\n){0,14}.*$'),
+    'no bytes': Kind(
+        'a place of no bytes: `has_address` of the engine in C tests that before', functions='is_in_row',
+        condition=r'^\(count && offset \+ \(count - 1\) - (8088|8480|8872|8936)u '),
+    'function found': Kind(
+        'a call of no function, although its function was just found', functions=ENDING,
+        condition=r'(n\d+) \? n\d+ : 0u;$', behind=r'const u32 @ = n\d+ == 1u;'),
+    'null copy': Kind(
+        'a null name whose copy finds too little memory: it needs none', functions=KEEPING,
+        condition=r'^if \((w\d+) == 0u\) {$', after=r'^return n\d+;$', behind=r'const u64 @ = load64\(frame \+ 48u\);'),
 }
 # Some of these can be taken, or nobody has examined whether they can.
 OTHERS = {
