@@ -6,7 +6,7 @@ import os
 import re
 
 from changed_scripts import LONGEST, changed, place_of
-from long_scripts import long_scripts, written
+from long_scripts import few_given, long_scripts, of_choices, written
 from scripts import made
 from trac import TOP
 from worked_rows import tables, text
@@ -15,8 +15,8 @@ SEEDS = os.path.join(TOP, 'checks', 'seeds.txt')
 FOUND = os.path.join(TOP, 'checks', 'found.txt')
 # The first seed of those that nothing chose.
 OTHERS = 1000000
-# Choices of ample cells and steps; and these with all memories of memories.c.
-AMPLE, ALL_MEMORIES = b'\xff\xff\x07\x1f\x0f', b'\xff\xff\xc9\x1f\x0f'
+# Choices of ample cells and steps; these with all memories of memories.c; and the first choices for parts of it.
+AMPLE, ALL_MEMORIES, PARTS = b'\xff\xff\x07\x1f\x0f', b'\xff\xff\xc9\x1f\x0f', b'\xff\xff\xc9'
 # Choices of ample cells and steps for long scripts: with calls, with forms, and with lines that are cut.
 LONG = AMPLE, b'\xff\xff\x96\x21\xc9', b'\xff\xff\x31\x63\x63'
 
@@ -48,10 +48,11 @@ def found_scripts():
 
 
 def first_scripts(scripts):
-    """The known scripts, long ones, and the broken ones once more with all memories."""
-    broken = [*contents('examples', 'broken', '*.trac'), *written()]
+    """The known scripts, long ones, the broken ones once more with all memories, and those for parts of memories.c."""
+    broken = [*contents('examples', 'broken', '*.trac'), *written(), *few_given()]
     long = [LONG[place % 3] + one for place, one in enumerate(long_scripts())]
-    return [AMPLE + one for one in scripts] + long + [ALL_MEMORIES + one for one in broken]
+    parts = [PARTS + one for one in of_choices()]
+    return [AMPLE + one for one in scripts] + long + [ALL_MEMORIES + one for one in broken] + parts
 
 
 def of_seed(seed, scripts):

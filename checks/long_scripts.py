@@ -83,7 +83,50 @@ def written():
     return [text * 60 for text in texts]
 
 
+def odd_places():
+    """A gap at the end of three characters and in the name of a call, a name up to the end of a form, texts of ss that
+    a value gave, an argument without a gap that a blank in a name explains, a call in one without a name, numbers of
+    characters that one place drops, two forms of one place, many open calls at a fault, and commas at the ends of
+    strings: behind which nothing stands, or a left parenthesis, of the script and of a value."""
+    return [b"#(ds,f,abc)#(ss,f,c)#(cl,f)'", b"#(ds,f,xyz)#(ds,g,(,abc))#(ss,f#(cl,g))'",
+            b"#(ds,f,(#(aXb)))#(ss,f,X)#(ss,f,ab)'", b"#(ds,g,(()))#(ds,f,(#)##(cc,g)abc)#(ss,f,zz)'",
+            b"#(ds,A,(#(cl,A)x))#(ps,#(ps,#(ps,#(ps,#(cl,A)'", b"#(#(hl))'", b"#[ps]'",
+            b"#(ds,g,(()))#(ds,f,##(cc,g)#(cr,g)##(cc,g)x)'#(cl,f)aaa'#(cl,f)bb'#(cl,f)cccc'",
+            b"#(ds,m,(#(ds,N,(#(zz)))))#(ss,m,N)#(cl,m,a)#(cl,m,b)#(cl,b)#(cl,a)#(cl,b)'",
+            b"#(ds,f,x)#(cs,f)#(eq,a#(cs,f),b,c,d)'",
+            b"#(ds,,abc)#(ss,,a,b)#(cs,)#(cr,)#(cl,,x)'", b"#(ds,abc,xyz)#(ss,abc,x,y)#(cl,abc,1)'(cl,abc",
+            b"#(ds,f,abc)#(ss, f,b)#(cl,f,x)'", b"#(ds,f,(a,))'#(rs'#(cl,f)'", b"#(ps,#(rs)(x))'a,'",
+            b"#(ds,f,(a,))#(ps,#(rs)(x))'#(cl,f)'"]
+
+
+def few_given():
+    """Calls with fewer arguments than gaps, of forms with names of several lengths and of one with the null name."""
+    names = [b'abcdefghijklmnopqrstu'[:length] for length in (5, 10, 20, 21)]
+    calls = b'#(ds,%b,abc)#(ss,%b,a,b,c)#(cl,%b,x)#(cl,%b,x,y)'
+    return [b''.join(calls.replace(b'%b', name) for name in names), b"#(ds,,abc)#(ss,,a,b)#(cl,,x)'"]
+
+
+def unknown_calls(count):
+    """Calls of so many names that no function has, in strings of ten."""
+    numbers = range(100, 100 + count)
+    return b"'".join(b''.join(b'#(q%d)' % number for number in numbers[at:at + 10]) for at in range(0, count, 10))
+
+
+def of_choices():
+    """Scripts for parts of memories.c that the last two bytes of their choices ask for: with little memory left at the
+    first step, in ample room, in none, and in so little that a string finds none; with lines that end at any place of
+    their list; and with all rooms and allowances."""
+    marked = [b"#(ds)'", b"#(a,#(b,#(c,#(d,#(e,#(f,#(g,#(h))))))))'", b"#(a,#(b,#(c,#('", b"#(a,b,c,d,'",
+              b"#(a,#(b,#(c,#(d,it's x'"]
+    tight = [b"#(rs)'", b"#(ds,aaaaaaaa,xxxxxxxxxxxxxxx)#(ds,bbbbbbbb,x)'"]
+    twice = b"#(ds,f,(%b))'#(cl,f)#(cl,f)'" % unknown_calls(70).replace(b"'", b'')
+    ended = unknown_calls(76) + b"'#(ds,A,(#(cl,A)xxxx))#(cl,A)'"
+    return ([b'\0\xff' + one for one in marked] + [b'\0\0' + marked[0]] + [b'\0\x0f' + one for one in tight]
+            + [b'\1\xff' + twice, b'\1\x58' + ended, b"\2\x0ax))y'", b"\2\x0a#(rs)'))xy'"])
+
+
 def long_scripts():
     """All of these scripts, but for those that are run with all memories."""
     found = many(b"#(ds,%03d,)'") + many(b"#(cl,%03d)'") + many(b"#(q%03d)'")
-    return found + long_names() + texts_alike() + few_arguments() + ended_by_others() + shown() + null_names()
+    found += long_names() + texts_alike() + few_arguments() + ended_by_others() + shown() + null_names()
+    return found + odd_places()

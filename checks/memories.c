@@ -5,7 +5,10 @@
 
 enum { PIECE = 4096, MOST_PIECES = 64, FEWER = 8, FILLED = 480, TRACES = 24, LONGEST_FILL = 2200, TRACED = 60 };
 enum { CALLS = 400, LAST = 24, FIRST_STEPS = 24, LONG_SCRIPT = 500 };
-enum { CELLS_HERE = 6000, STEPS_HERE = 9000 };
+enum { CELLS_HERE = 6000, STEPS_HERE = 9000, FEWEST_MARKS = 20, MOST_MARKS = 110, FEWER_MARKED = 4 };
+enum { LONGEST_NAME = 150, CELLS_OF_ROOM = 8, AMPLE_ROOM = 200, FIRST_ALLOWANCES = 100 };
+/* What a script asks for by its fourth byte, in a room that its fifth byte chooses; others ask for all the rest. */
+enum { MARKED, LINES_ALONE, ROOMS };
 
 static _Alignas(16) uint8_t memory[2][PIECE * MOST_PIECES];
 static uint8_t filled[LONGEST + LONGEST_FILL + 16];
@@ -13,6 +16,24 @@ static uint8_t filled[LONGEST + LONGEST_FILL + 16];
 /* Puts the script behind a form of so many characters, and gives the length of both. */
 static size_t fill(size_t count, size_t characters) {
     const size_t length = (size_t)sprintf((char *)filled, "#(ds,e,%0*d)", (int)characters + 1, 0);
+    memcpy(filled + length, script + CHOICES, count - CHOICES);
+    return length + count - CHOICES;
+}
+
+/* Puts behind the script so many left parentheses that look like calls, and gives the length of all. Before the first
+ * step the warning of each takes memory; that of a named one takes some bytes more. */
+static size_t mark(size_t count, size_t marks, size_t named) {
+    size_t length = count - CHOICES;
+    memcpy(filled, script + CHOICES, length);
+    for (size_t i = 0; i < marks; i++)
+        length += (size_t)sprintf((char *)filled + length, i < named ? "(ps,)" : ":(ps)");
+    return length;
+}
+
+/* Puts the script behind a call of a name of so many characters, which the first line shows, and gives the length of
+ * both. */
+static size_t name(size_t count, size_t characters) {
+    const size_t length = (size_t)sprintf((char *)filled, "#(%0*d)'", (int)characters + 1, 0);
     memcpy(filled + length, script + CHOICES, count - CHOICES);
     return length + count - CHOICES;
 }
@@ -45,6 +66,32 @@ static size_t enough_pieces(size_t length) {
     while (pieces < MOST_PIECES && !check_in(length, pieces))
         pieces++;
     return pieces;
+}
+
+/* With less and less memory left at the first step, so that each list that the first steps need finds too little of it
+ * once. */
+static void check_marked(size_t count) {
+    for (size_t marks = FEWEST_MARKS; marks <= MOST_MARKS; marks++) {
+        const size_t pieces = enough_pieces(mark(count, marks, 0));
+        for (size_t named = 0; named <= marks; named += 16)
+            check_in_each(mark(count, marks, named), pieces, FEWER_MARKED);
+    }
+}
+
+/* With first lines of many lengths, so that the list of all lines finds too little memory at each part of a line. */
+static void check_lines(size_t count) {
+    for (size_t characters = 0; characters < LONGEST_NAME; characters++)
+        (void)enough_pieces(name(count, characters));
+}
+
+/* In all rooms up to the one of the script, and then with the first allowances. */
+static void check_rooms(size_t count) {
+    const size_t length = fill(count, 0), most = cells;
+    for (cells = 0; cells < most; cells++)
+        check_in(length, MOST_PIECES);
+    for (steps = 0; steps < FIRST_ALLOWANCES; steps++)
+        check_in(length, MOST_PIECES);
+    steps = STEPS_HERE;
 }
 
 /* A long script takes longer, and has all pieces alone. */
@@ -131,6 +178,12 @@ static void trace_call(size_t count, size_t characters) {
 }
 
 void memories_both(size_t count) {
+    if (script[3] <= ROOMS) {
+        cells = script[4] < AMPLE_ROOM ? script[4] * CELLS_OF_ROOM : CELLS_HERE;
+        (script[3] == MARKED ? check_marked : script[3] == LINES_ALONE ? check_lines : check_rooms)(count);
+        cells = CELLS_HERE;
+        return;
+    }
     check_filled(count);
     check_first_steps(count);
     for (int i = 0; i < TRACES; i++)

@@ -197,6 +197,8 @@ void refused_both(void) {
     refused_runs(proved.block, TRAC_MOST_CELLS + (size_t)1);
     refused_runs((trac_cell *)(void *)(bytes + 1), 4);
     refused_runs(proved.block, CELLS_HERE);
+    SAME_REPORT(check_zeroed, proved.block, TRAC_MOST_CELLS + (size_t)1, STEPS_HERE, bytes, 0, words, sizeof words,
+                bytes, ROOM);
     must_report("trac_run_with",
                 trac_run_with(proved.block, CELLS_HERE, 99, bytes, 32, read_script, write_too_much, &at[0]),
                 c_trac_run_with(in_c.block, CELLS_HERE, 99, bytes, 32, read_script, write_too_much, &at[1]));

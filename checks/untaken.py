@@ -1,6 +1,7 @@
 """Which branches of the engine in C no compared run takes, as gcov counted them: how many in each function, and of
 which kind. test_branches.py compares this with branches.md, and writes it anew with WRITE=1."""
 import collections
+import functools
 import gzip
 import json
 import os
@@ -13,6 +14,8 @@ from trac import TOP
 ENGINE = os.path.join(TOP, 'hosts', 'c', 'trac_engine.c')
 LISTED = os.path.join(TOP, 'checks', 'branches.md')
 BEFORE, DEEPEST = 40, 64
+# The module re keeps fewer patterns than there are.
+compiled = functools.lru_cache(None)(re.compile)
 TITLES = {'Excluded': ('What is excluded, and by what', EXCLUDED), 'Not examined': ('What it is', OTHERS)}
 HEAD = """# Branches of the engine in C that nothing takes
 
@@ -50,13 +53,36 @@ def statement(source, number):
     return text + ' trap();' * (source[number].strip() == 'trap();')
 
 
+def around(source, number):
+    """The first line of the block that a line stands in, or the label before it."""
+    line = source[number - 1]
+    depth = len(line) - len(line.lstrip())
+    return next((other.strip() for other in source[number - 2::-1] if len(other) - len(other.lstrip()) < depth), '')
+
+
+def begun(source, number, function):
+    """The lines of a function in front of a line."""
+    first = next(place for place in range(number - 1, -1, -1) if re.match(rf'\S.*\b{function}\(', source[place]))
+    return '\n'.join(source[first:number - 1])
+
+
+def found_with(asked, found, text):
+    """Whether a text has what is asked for, with one of the variables that were found for @."""
+    names = [one for one in found.groups() if one] if '@' in asked else ['@']
+    return any(compiled(asked.replace('@', one)).search(text) for one in names)
+
+
 def fits(source, number, function, asked):
     """Whether a line has a condition as it is asked for."""
-    found = re.match(asked.functions, function) and re.search(asked.condition, statement(source, number))
-    if not found or not re.search(asked.after, source[number].strip()):
+    found = compiled(asked.functions).match(function) and compiled(asked.condition).search(statement(source, number))
+    if not found or not compiled(asked.after).search(source[number].strip()):
+        return False
+    if asked.within and not compiled(asked.within).search(around(source, number)):
+        return False
+    if asked.behind and not found_with(asked.behind, found, begun(source, number, function)):
         return False
     front = '\n'.join(source[max(0, number - BEFORE):number - 1])
-    return not asked.before or any(re.search(asked.before.replace('@', one), front) for one in found.groups() if one)
+    return not asked.before or found_with(asked.before, found, front)
 
 
 def has_kind(source, number, function, asked):
