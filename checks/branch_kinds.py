@@ -40,7 +40,7 @@ EXCLUDED = {
         '(`IsSound` of trac_forms)',
         condition=r'\btrap\(\)'),
     'null': Kind('a null pointer: `api.c` hands the exports pointers that are never null',
-                 condition=r' == 0u \? 4096u : 0u\)'),
+                 condition=r' == 0u \? 4096u : 0u[);]'),
     'one chunk': Kind(
         'an arena whose first chunk is missing, is not whole pages, or is not the only one: `arena_over` of trac_lent '
         'takes all whole pages as that one, `Lent` refuses all blocks after it, and no function sets a limit',
@@ -89,12 +89,26 @@ EXCLUDED = {
         functions='std_collections_btree_row_Row_reverse', condition=rf'\(({VARIABLE}) (!= 0u|<= [1-6]u)\)',
         before=rf'\b@ = {VARIABLE} - [1-7]u;'),
     'table': Kind('a constant text that overlaps what it is copied to: the tables of the engine are never written',
-                  condition=rf'\({VARIABLE} - \(TABLES \+ \d+u\) (<|<=|>) ({VARIABLE}|\d+u)\)'),
+                  condition=rf'\({VARIABLE} - \(TABLES \+ \d+u\) (<|<=|>) ({VARIABLE}|\d+u)\)',
+                  also=(having('views_', r'^if \(w\d+ - (w\d+) >= p\d+\) {$',
+                               r'const u64 @ = n\d+ \? TABLES \+ \d+u : TABLES \+ \d+u;$'),
+                        having('views_', r'^if \(w\d+ - (w\d+) <= \d+u\) {$', r'const u64 @ = table64\((.*\n)*'))),
     'part': Kind(
         'a part that is empty, stays where it is, overlaps its copy or is copied the other way: `copy_long` of '
         'trac_space first tests `end - start < BLOCK`, `start.abs_diff(to) < BLOCK` and `start < to`, and '
         '`copy_disjoint` `requires apart`',
         functions='space_copies_copy_(long|higher_by_parts|lower_by_parts)'),
+    'eights': Kind(
+        'a copy of 17 to 24 cells that begins with eight of them, or goes on behind sixteen: its last eight are copied '
+        'at the end; or a copy of fewer than 17 (`copy_disjoint` of trac_space)',
+        functions='forms_work_Work_load_other_part|core_call_answer|core_machine_advancing_go_on$|'
+        'store_item_copies_load_items_over_index',
+        condition=rf'^if \(\(\(word\)({VARIABLE}) & 8u\) == 0u\) {{$|^if \(({VARIABLE}) >= 8u\) {{$',
+        before=r'>= 25u\) {\n(.*\n){1,4}.*>= 17u\) {\n.*\b@ = w\d+ - 9u;',
+        also=(having('forms_work_Work_load_other_part|core_call_answer|core_machine_advancing_go_on$|'
+                     'store_item_copies_load_items_over_index', r'^} while \((w\d+) > 8u\);$',
+                     r'(p\d+) = \1 - 128u;\n *@ = @ - 16u;$'),
+              having('space_filling_put_untagged', r'^if \((w\d+) >= 8u\) {$', r'\b@ = to - 9u;'))),
     'count': Kind(
         'a count of bytes, cells, items or lines, or a place among them, that reaches 2^60: there are fewer',
         condition=rf'{VARIABLE} (== 0u|[<>] {VARIABLE}) \? 18446744073709551615ull : {VARIABLE}',
@@ -160,7 +174,7 @@ EXCLUDED = {
     'gap': Kind(
         'a cell of a body that is no gap: its kind was just seen',
         functions='space_filling_fill_each|store_item_copies_',
-        condition=r'load8\(p\d+\) == 3u \? load32\(p\d+ \+ 4u\) - 1u : 4294967295u'),
+        condition=r'(load8\(p\d+\)|n\d+) == 3u \? load32\(p\d+ \+ 4u\) - 1u : 4294967295u'),
     'rest': Kind(
         'an input of which more was consumed than there is: what is left of it is its end (`TurnedOrOver` of trac_c)',
         functions='c_turn_take_turn|engine_(run|run_zeroed|trace_step)$',
@@ -215,7 +229,12 @@ EXCLUDED = {
               having('core_call_answer|checker_run_watched', r'^switch \(n\d+ - 5u\)'))),
     'place': Kind(
         'a digit behind the end of a bit string: its place was computed from the number of digits',
-        functions='values_bit_string_', condition=r'\(p\d+ < digits_len\)'),
+        functions='values_bit_string_', condition=r'\(p\d+ < digits_len\)',
+        also=(having('values_bit_string_', r'\((w\d+) < digits_len\)',
+                     r'= (w\d+ - p\d+|digits_len \* 18446744073709551613ull \+ w\d+);\n *const u64 @ = w\d+ / 3u;\n'
+                     r'.*= 0u;$'),
+              having('values_bit_string_', r'\((w\d+) < digits_len\)',
+                     r'= (w\d+ - p\d+|digits_len \* 18446744073709551613ull \+ w\d+);\n *const u64 @ = w\d+ / 3u;$'))),
     'taken away': Kind(
         'a difference that is less than 0: what a step took from a string, what a call has of all arguments, and what '
         'stands behind a string is a part of what there was',
@@ -260,9 +279,38 @@ EXCLUDED = {
         also=(having('std_alloc_vec_deque_VecDeque_drop', r'\(w\d+ != 0u\)',
                      after=r'^word p\d+ = \(word\)w\d+ \+ 72u;$'),)),
     'quotient': Kind(
-        'a quotient that is -2^127: the numbers that are divided are greater (`in_range` of trac_values)',
+        'a quotient that is -2^127, or a dividend that is: the numbers that are divided are greater (`in_range` of '
+        'trac_values)',
         functions='values_number_result_of', condition=r'= (n)\d+ \? w\d+ : 0u;',
-        before=r'(\(i64\)w\d+ >> 63\)|0u - \(\(u32\)\(w\d+ != 0u\) \+ w\d+\));(\n.*){1,3}$'),
+        before=r'(\(i64\)w\d+ >> 63\)|0u - \(\(u32\)\(w\d+ != 0u\) \+ w\d+\)|w\d+ = w\d+ - w\d+);(\n.*){1,3}$',
+        also=(having('values_number_result_of', r'\^ 9223372036854775808ull\) \| w\d+\) != 0u\) {$'),
+              having('functions_arithmetic_arithmetic', r'\(w\d+ != 9223372036854775808ull\) {$'))),
+    'division': Kind(
+        'a quotient that has 128 binary digits, or whose dividend is the smaller number: a divisor that is greater was '
+        'tested before, and so was one that is 1 (`quotient` of trac_language), or it is 10^19 (`parted` of '
+        'trac_functions); the dividend is less than 2^127',
+        functions='values_number_result_of|functions_arithmetic_long_arithmetic',
+        condition=rf'\(\(\({VARIABLE} \^ 127u\) \| {VARIABLE}\) == 0u\)|'
+        rf'^if \(\({VARIABLE} \| {VARIABLE}\) == 0u\) {{$'),
+    'long text': Kind(
+        'no character in front of the last nineteen of a number that is longer: its text has twenty at least '
+        '(`may_be_long` and `short_number` of trac_values)',
+        functions='functions_arithmetic_long_arithmetic', condition=r'^if \((w\d+) [<>] (w\d+)\) {$',
+        before=r'const u64 @ = w\d+ < w\d+ \? 0u : w\d+;$'),
+    'longest number': Kind(
+        'a value of digits that is less than 0: it grows from 0 and ends where it leaves the range (`long_value` of '
+        'trac_values)',
+        functions='values_number_longest_tail', condition=r'n\d+ \? 0u - (w\d+ :|\(\(u32\))',
+        also=(having('values_number_longest_tail', r'^if \(w\d+ == 0u\) {$'),)),
+    'no digits': Kind(
+        'a digit of a number that is compared with none: as many are compared as it has (`compare_digits` of '
+        'trac_values)',
+        functions='values_comparing_long_greater', condition=r'w\d+ < w\d+ \? 0u : 208u|n\d+ > n\d+ \? 0u : 2u',
+        also=(having('values_comparing_long_greater', r'^if \(w\d+ <= (w\d+)\) {$', r'const u64 @ = w\d+ - 1u;'),)),
+    'prefix': Kind(
+        'a prefix of a number without a character: that it has some was just tested (`load_prefix` of trac_functions)',
+        functions='functions_arithmetic_', condition=r'^if \(([np]\d+) != 1u\) {$',
+        before=r'store32\(work \+ 24u, n\d+\);\n *n\d+ = n\d+;\n *store8\(.*\n.*\n.*\n *return;\n *}$'),
     'item': Kind(
         'an item behind the end of a body, a run of characters without one, or a number without a digit, where a form '
         'is displayed or copied: places are counted up to its length',
@@ -272,7 +320,13 @@ EXCLUDED = {
               having('functions_form_parts_take_part', r'^if \(n\d+ <= n\d+\)$'))),
     'innermost mark': Kind(
         'a mark of an open call that stands behind the neutral string, or is none: the marks are linked (`IsLinked` of '
-        'trac_space)', functions='engine_calls$', condition=r'<= n\d+\)|!= 1u\)'),
+        'trac_space)', functions='engine_calls$', condition=r'<= n\d+\)|!= 1u\)',
+        also=(having('engine_trace_step$', r'(n\d+) \? w\d+ - p\d+ : 0u;|(n\d+) \? p\d+ : \(word\)w\d+\) << 3\)',
+                     r'\b@ = n\d+ - 1u < w\d+;'),
+              having('engine_trace_step$', r'^if \(load32\(machine \+ 20u\) > (n\d+)\) {$', r'\b@ = n\d+ - 1u;$'),
+              having('engine_trace_step$', r'load8\(p\d+\) == 1u \? load8\(p\d+ \+ 1u\) : 0u\)'),
+              having('tracer_shown_Shown_look_at_call$', r'= (n\d+) \? w\d+ : 0u;|\(\((n\d+) \? w\d+ : w\d+\) << 3',
+                     r'\b@ = w\d+ > call;'))),
     'argument found': Kind(
         'an argument of a step that performs none, or behind the last one: `trac_argument` asks for the number of '
         'arguments first, and the next step for those of its call',
@@ -289,7 +343,71 @@ EXCLUDED = {
         'a character of one byte, or a second one: `character_len` of trac_views asks of bytes that begin with another '
         'one, and of the fewest bytes first', functions='views_escapes_is_whole',
         condition=r'\(\(i32\)n\d+ >= 0\)|\(w\d+ < 2u\)|while \(w\d+ < len\)'),
-    'digits': Kind('a number without a digit', condition=rf'if \(({VARIABLE}) != 0u\)', before=r'\b@ = 40u - '),
+    'failed reading': Kind(
+        'a step that is not made, performs no call that reads, or ends in another way, where reading fails: the turn '
+        'before it waited for input (`one_step` of trac_c)', functions='engine_trace_step$',
+        condition=r'^if \(load8\(machine \+ 84u\) == 1u\) {$|^if \(load64\(machine \+ 64u\) == w\d+\) {$|'
+        r'^if \(\(?n\d+ & (3u|12u)\)',
+        also=(having('engine_trace_step$', r'^if \(load8\(frame \+ \d+u\) == 1u\) {$',
+                     after=r'^n\d+ = load8\(frame \+ \d+u\);$'),
+              having('engine_trace_step$', r'^if \(n\d+\) {$', after=r'^core_call_answer\('),
+              having('engine_trace_step$', r'^if \(\((n\d+) & 255u\) == 0u\) {$', r'n\d+ = load32\(p\d+\);$',
+                     r'^n\d+ = 0u;$'))),
+    'slice': Kind(
+        'an output that fails: what a step prints fits in its bytes, or the step is not made (`step_on` of trac_c)',
+        functions='engine_trace_step$', condition=r'^switch \(n\d+ - 1u\)',
+        after='^case 0:$'),
+    'later': Kind(
+        'lines or a form before their step is made, and names of deleted forms where a step waits: only `dd` and `da` '
+        'delete forms, and wait for nothing', functions='engine_trace_step$', condition=r'^if \((w\d+) != 0u\) {$',
+        before=r'= load32\(trace \+ 48u\);\n(.*load64\(p\d+\);\n)?.*\b@ = load64\(frame \+ 208u\);$',
+        also=(having('engine_trace_step$', r'^if \((w\d+) != 0u\) {$',
+                     r'case 10:\n(.*\n)*.*\b@ = load64\(frame \+ 288u\);$'),
+              having('engine_trace_step$', r'^if \((w\d+) == 0u\) {$',
+                     r'w\d+ = 0u;\n *n\d+ = 10u;\n.*\b@ = load64\(frame \+ 320u\);$'),
+              having('engine_trace_step$', r'^if \((w\d+) == 0u\) {$', r'frame \+ 192u\)\) {\n *store64\(p\d+ \+ '
+                     r'32u(.*\n)*.*}\n.*\b@ = load64\(frame \+ 320u\);$'))),
+    'newest': Kind(
+        'a list that ends and is not the last of its arena: it is the newest, as those that were made after it ended '
+        'before it: the lines, their copy, names of deleted forms and arguments where no call is made, and a text that '
+        'finds no more memory', functions='engine_trace_step$',
+        condition=r'^if \(load64\(p\d+\) \+ w\d+ == (load64\(frame \+ (192|464)u\))\) {$',
+        also=(having('engine_trace_step$', r'^if \(load64\(p\d+\) \+ (w\d+) == w\d+\) {$',
+                     r'= load64\(frame \+ 480u\);(\n.*){5}$'),
+              having('engine_trace_step$', r'^if \(load64\(p\d+\) \+ (w\d+) == load64\(frame \+ 224u\)\) {$',
+                     r'case 10:\n'),
+              having('engine_trace_step$', r'^if \(load64\(p\d+\) \+ (w\d+) == load64\(frame \+ 272u\)\) {$',
+                     r'= load32\(trace \+ 48u\);\n *w\d+ = load64\(p\d+\);\n'),
+              having('views_escapes_push_(cells_cut|name)$',
+                     r'^if \(load64\(p\d+\) \+ (w\d+) == load64\(frame \+ 8u\)\) {$'),
+              having('views_forms_push_form$', r'^if \(load64\(p\d+\) \+ w\d+ != load64\(frame\)\) {$'))),
+    'marked form': Kind(
+        'the text of a form that is shown, if it has nothing: it has the mark of the pointer at least (`show_form` of '
+        'trac_core)', functions='views_forms_push_form$', condition=r'^if \((w\d+) == 0u\) {$',
+        before=r'views_escapes_push_cut\(.*\n.*\b@ = load64\(frame \+ 16u\);$'),
+    'deep line': Kind(
+        'more memory for the number of the calls around a call: its line has room for sixty bytes there, as the number '
+        'of a step has at most twelve digits, and that of the calls eight', functions='views_calls_push_call$',
+        condition=r'^if \((w\d+) == w\d+\) {$', before=r'store64\(line, w\d+\);$',
+        also=(having('views_calls_push_call$', r'^if \((w\d+) - w\d+ <= 1u\) {$', r'} while \(w\d+ != 0u\);$'),
+              having('views_calls_push_call$', r'^if \(w\d+ - w\d+ < (w\d+)\) {$', r'@ = 40u - '))),
+    'opening': Kind(
+        'the characters that open a call, if they are none: they are two or three (`opening` of trac_views)',
+        functions='views_(calls_push_call|faults_push_fault)$', condition=r'^if \((p\d+) != 0u\) {$',
+        before=r'const u64 (w\d+) = n\d+ \? TABLES \+ \d+u : TABLES \+ \d+u;\n *if \(w\d+ - \1 >= @\) {$'),
+    'first bytes': Kind(
+        'the first bytes of a step, if there is no memory for them, or if its rule needs no more: in the view of steps '
+        'no list is made before the lines, which have nothing yet, the smallest memory is a piece of 4096 bytes, and '
+        'the number of a step has at most sixteen digits',
+        functions='views_lines_push_step$',
+        condition=r'^if \(views_lines_push_column\(|^if \(views_lines_push\(line, TABLES \+ \d+u, 2u\)',
+        also=(having('views_lines_push_step$', r'grow_amortized\(line, (2u|13u)\)'),
+              having('views_lines_push_step$', r'^if \(w\d+ - w\d+ <= 12u\) {$',
+                     after=r'grow_amortized\(line, 13u\)'))),
+    'digits': Kind(
+        'a number without a digit', condition=rf'if \(({VARIABLE}) != 0u\)', before=r'\b@ = 40u - ',
+        also=(having('functions_arithmetic_', r'^if \((w\d+) [!=]= 0u\) {$', r'if \(@ <= 7u\) {$'),
+              having('functions_arithmetic_', r'^if \(w\d+ [!=]= 40u\)'))),
     'printing': Kind(
         'a step that performs no call, or a call of another function, although the next step was just found to perform '
         'one that prints (`next_function` of trac_core)',
