@@ -99,8 +99,8 @@ EXCLUDED = {
         '`copy_disjoint` `requires apart`',
         functions='space_copies_copy_(long|higher_by_parts|lower_by_parts)'),
     'eights': Kind(
-        'a copy of 17 to 24 cells that begins with eight of them, or goes on behind sixteen: its last eight are copied '
-        'at the end; or a copy of fewer than 17 (`copy_disjoint` of trac_space)',
+        'a copy to a higher place of 17 to 24 cells that takes another number of blocks of eight than two before the '
+        'first block, or one of more cells that takes fewer (`copy_higher_by_blocks` of trac_space)',
         functions='forms_work_Work_load_other_part|core_call_answer|core_machine_advancing_go_on$|'
         'store_item_copies_load_items_over_index',
         condition=rf'^if \(\(\(word\)({VARIABLE}) & 8u\) == 0u\) {{$|^if \(({VARIABLE}) >= 8u\) {{$',
@@ -181,11 +181,14 @@ EXCLUDED = {
         condition=rf'(input_len|script_len) < ({VARIABLE}) \? 0u|({VARIABLE}) > (input_len|script_len) \? 0u'),
     'laid out': Kind(
         'a part of the block that ends in front of where it begins: the store, neutral and active stand in this order '
-        '(`IsLaidOut` of trac_space)', functions='engine_part$', condition=r'\? 0u : w\d+;'),
+        '(`IsLaidOut` of trac_space)', functions='engine_part$', condition=r'\? 0u : w\d+;',
+        also=(having('views_faults_push_fault$', r'w\d+ > p\d+ \? 0u : w\d+|p\d+ < w\d+ \? 0u : w\d+|'
+                     r'^const u64 w\d+ = w\d+ < w\d+ \? 0u : w\d+;'),)),
     'asked before': Kind(
         'what `api.c` refuses, or asks for only within the bounds: more cells than there can be, a form or a fact that '
         'is none', functions='engine_(open|open_zeroed|turn_to_form|function_fact)$',
-        condition=r'<= (16777216|4294967295)u|^switch \(which\)'),
+        condition=r'<= (16777216|4294967295)u|^switch \(which\)',
+        also=(having('engine_function_fact$', r'^if \(load8\(frame \+ \d+u\) != 1u\) {$'),)),
     'popped': Kind(
         'a list that has no room for an item, although one was just taken from it',
         functions='checker_|warnings_watch_',
@@ -280,15 +283,15 @@ EXCLUDED = {
                      after=r'^word p\d+ = \(word\)w\d+ \+ 72u;$'),)),
     'quotient': Kind(
         'a quotient that is -2^127, or a dividend that is: the numbers that are divided are greater (`in_range` of '
-        'trac_values)',
+        'trac_language)',
         functions='values_number_result_of', condition=r'= (n)\d+ \? w\d+ : 0u;',
         before=r'(\(i64\)w\d+ >> 63\)|0u - \(\(u32\)\(w\d+ != 0u\) \+ w\d+\)|w\d+ = w\d+ - w\d+);(\n.*){1,3}$',
         also=(having('values_number_result_of', r'\^ 9223372036854775808ull\) \| w\d+\) != 0u\) {$'),
               having('functions_arithmetic_arithmetic', r'\(w\d+ != 9223372036854775808ull\) {$'))),
     'division': Kind(
-        'a quotient that has 128 binary digits, or whose dividend is the smaller number: a divisor that is greater was '
-        'tested before, and so was one that is 1 (`quotient` of trac_language), or it is 10^19 (`parted` of '
-        'trac_functions); the dividend is less than 2^127',
+        'a quotient of 128 binary digits, or of a dividend that has fewer than the divisor: the dividend is less than '
+        '2^127 (`in_range` of trac_language), a divisor with more digits was tested before, and `parted` of '
+        'trac_functions divides by 10^19',
         functions='values_number_result_of|functions_arithmetic_long_arithmetic',
         condition=rf'\(\(\({VARIABLE} \^ 127u\) \| {VARIABLE}\) == 0u\)|'
         rf'^if \(\({VARIABLE} \| {VARIABLE}\) == 0u\) {{$'),
@@ -298,8 +301,8 @@ EXCLUDED = {
         functions='functions_arithmetic_long_arithmetic', condition=r'^if \((w\d+) [<>] (w\d+)\) {$',
         before=r'const u64 @ = w\d+ < w\d+ \? 0u : w\d+;$'),
     'longest number': Kind(
-        'a value of digits that is less than 0: it grows from 0 and ends where it leaves the range (`long_value` of '
-        'trac_values)',
+        'a value of digits that is less than 0, or of no digit: it grows from 0 and ends where it leaves the range '
+        '(`long_value` of trac_values), and there are more than 38 digits (`number_in_two_parts`)',
         functions='values_number_longest_tail', condition=r'n\d+ \? 0u - (w\d+ :|\(\(u32\))',
         also=(having('values_number_longest_tail', r'^if \(w\d+ == 0u\) {$'),)),
     'no digits': Kind(
@@ -385,6 +388,55 @@ EXCLUDED = {
         'the text of a form that is shown, if it has nothing: it has the mark of the pointer at least (`show_form` of '
         'trac_core)', functions='views_forms_push_form$', condition=r'^if \((w\d+) == 0u\) {$',
         before=r'views_escapes_push_cut\(.*\n.*\b@ = load64\(frame \+ 16u\);$'),
+    'reserved': Kind(
+        'cells for a part of a number that are not there: that all of it fits was tested before (`give_decimal` and '
+        '`give_digits` of trac_functions)', functions='functions_arithmetic_',
+        condition=r'try_reserve_without_index\(work, w\d+\) == 0u\)',
+        also=(having('functions_arithmetic_', r'^if \((n\d+) == 0u\)$',
+                     r'@ = space_space_Space_try_reserve_without_index\(work, w\d+\);(\n.*){1,4}$'),)),
+    'one cell': Kind(
+        'a character that doesn\'t fit in front of an index: the right parenthesis of the call that gives it left a '
+        'cell', functions='functions_form_parts_call_character$|core_call_answer$',
+        condition=rf'^if \(load32\((work|{VARIABLE}) \+ 24u\) \+ (n\d+) != load32\((work|{VARIABLE}) \+ 28u\)\) {{$',
+        after=r'= \(\(word\)n\d+ << 3\) \+ '),
+    'long forms': Kind(
+        'one cell, where a form or a call of `ds` is moved, or fewer than nine where a form of eight is made: a form '
+        'has three numbers, and the call has a mark, the name of its function, a comma, and all that the form has',
+        functions='functions_form_calls_delete_definition$', condition=r'^if \((w\d+) == 1u\) {$',
+        before=r'\b@ = \(u64\)p\d+ - p\d+;',
+        also=(having('functions_form_calls_define_string$', r'^if \(w\d+ == 1u\) {$'),
+              having('functions_form_calls_define_string$', r'^if \((w\d+) >= 9u\) {$',
+                     r'if \(n\d+ >= 8u\) {\n *if \(@ - 8u <= 40u\) {$'))),
+    'null name': Kind(
+        'a name without a character, of which the last character was just compared (`find_between` of trac_store)',
+        functions='store_form_cells_find_|forms_work_Work_find_among_few$', condition=r'^if \((n\d+) == 0u\)( {)?$',
+        before=r'if \(p\d+ == \w+\) {\n(.*load8.*\n)?.*\) {$'),
+    'cut': Kind(
+        'a place behind the end of a text, or in one that has nothing: a text is cut where it is longer than its '
+        'width, and looked at from one of its bytes on (`push_cut` and `push_text` of trac_views)',
+        functions='views_escapes_(push_cut|left_at)$',
+        condition=r'^if \(\(u32\)\(word\)bytes_len - 1u\) {$',
+        also=(having('views_escapes_push_cut$', r'^if \((w\d+) < bytes_len\) {$', r'u64 @ = \(u64\)p\d+ - p\d+;'),)),
+    'emptied': Kind(
+        'a list that is emptied and has something: all lists are made anew for each step (`show_in` of trac_c)',
+        functions='tracer_shown_Shown_(look_at_call|add_call)$', condition=r'^if \(load64\(p\d+\) != 0u\) {$'),
+    'index': Kind(
+        'an index without cells, which has room for another form: it has four cells for each', condition=r'^} else if '
+        r'\((n\d+) != n\d+\) {$', functions='engine_define|functions_form_calls_define_string$|forms_index_index_from$',
+        before=r'forms_index_grow_index\(\w+, n\d+ \+ 1u\);\n *}$',
+        also=(having('engine_define|functions_form_calls_define_string$|forms_index_index_from$',
+                     r'^if \((w\d+) != 0u\) {$', r'\b@ = \(\(w\d+ - p\d+\) >> 1\) & 9223372036854775806ull;$'),)),
+    'listed': Kind(
+        'a form that is none, or a call in the view of steps: names are listed of as many forms as there are (`forms` '
+        'of trac_forms), and `add_call` of trac_tracer shows calls in other views',
+        functions='functions_form_calls_list_names$', condition=r'^if \(load8\(frame\) == 1u\) {$',
+        also=(having('views_events_push_event$', r'^if \(load8\(views \+ 33u\) != 1u\) {$'),)),
+    'next rule': Kind(
+        'an active string that is empty or begins with another character, although the next rule was just told to be '
+        'that of a left parenthesis (`next_rule` of trac_core)', functions='engine_trace_step$',
+        condition=r'^if \(load8\(\(\(word\)n\d+ << 3\) \+ p\d+ \+ 1u\) == 40u\) {$',
+        also=(having('engine_trace_step$', r'^if \((n\d+) != 0u\) {$',
+                     r'case 0:\n *{\n.*@ = load32\(machine \+ 24u\);$'),)),
     'deep line': Kind(
         'more memory for the number of the calls around a call: its line has room for sixty bytes there, as the number '
         'of a step has at most twelve digits, and that of the calls eight', functions='views_calls_push_call$',

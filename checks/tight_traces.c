@@ -6,13 +6,15 @@ enum { PIECE = 4096, CELLS_HERE = 4000, MOST = 4200, STEPS_TO_CALL = 3, LONGEST_
 enum { FORM = 40, FIRST_FORM = 12, FEWEST_FORMS = 30, MOST_FORMS = 42 };
 
 static _Alignas(16) uint8_t memory[2][PIECE];
-static uint32_t letters[MOST];
+static uint32_t letters[MOST], width;
 
-static void define_letters(const char *name, size_t length) {
+static void define_letters_to(const char *name, size_t length, size_t pointer) {
     const size_t named = strlen(name);
-    must(trac_define(&proved.machine, name, named, letters, length, 0) ==
-             c_trac_define(&in_c.machine, name, named, letters, length, 0), "a form of letters");
+    must(trac_define(&proved.machine, name, named, letters, length, pointer) ==
+             c_trac_define(&in_c.machine, name, named, letters, length, pointer), "a form of letters");
 }
+
+static void define_letters(const char *name, size_t length) { define_letters_to(name, length, 0); }
 
 static void set_meta(uint32_t meta) {
     must(trac_set_meta(&proved.machine, meta) == c_trac_set_meta(&in_c.machine, meta), "trac_set_meta");
@@ -53,7 +55,7 @@ static void trace_call(const char *call, int around, size_t characters, int is_o
     size_t length = 0, at = 0;
     trac_report told = {TRAC_GOING, 0, 0, 0, 0, 0};
     trac_trace a = TRAC_NO_TRACE, b;
-    a.from = 1, a.to = UINT64_MAX, a.calls = !is_of_forms, a.forms = is_of_forms;
+    a.from = 1, a.to = UINT64_MAX, a.calls = !is_of_forms, a.forms = is_of_forms, a.width = width;
     b = a;
     for (int i = 0; i < around; i++)
         length += (size_t)sprintf(text + length, "#(eq,");
@@ -133,9 +135,40 @@ static void trace_all_steps(void) {
         trace_steps("##(cl,e)##(cl,e)ab'", 2700, width);
 }
 
-void tight_traces_both(void) {
+static void set_letters(uint32_t one, uint32_t other) {
     for (size_t i = 0; i < MOST; i++)
-        letters[i] = 'a' + i % 2;
+        letters[i] = i % 2 ? other : one;
+}
+
+/* Calls with arguments of which each character takes two bytes of a line, whole and cut. */
+static void trace_two_bytes(void) {
+    for (size_t characters = 340; characters < 430; characters++) {
+        set_letters('\t', '\t');
+        trace_call("#(zz,##(cl,e))", 0, characters, 0, 0);
+        set_letters(0xC3, 0xA9);
+        trace_call("#(zz,##(cl,e))", 0, characters, 0, 0);
+        width = 150;
+        trace_call("#(zz,##(cl,e))", 0, characters, 0, 0);
+        width = 0;
+    }
+}
+
+/* The end of a run behind a form whose pointer stands at its end. */
+static void trace_pointers(void) {
+    for (size_t characters = 2040; characters < 2052; characters++) {
+        trac_trace a = TRAC_NO_TRACE, b;
+        a.from = 1, a.to = UINT64_MAX, a.forms = 1;
+        b = a;
+        must(open_both(CELLS_HERE, 0), "trac_open");
+        define_letters_to("e", characters, characters);
+        (void)step_in_a_piece((const uint8_t *)"", 0, &a, &b);
+    }
+}
+
+void tight_traces_both(void) {
+    trace_two_bytes();
+    set_letters('a', 'b');
+    trace_pointers();
     trace_all_steps();
     trace_calls();
     trace_ends();
