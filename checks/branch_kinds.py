@@ -1,84 +1,9 @@
 """The kinds of branches of the engine in C that no compared run takes, for untaken.py: what excludes them, told by the
 text of their condition; and those of which nobody has examined whether they can be taken."""
-import typing
+from branch_kind import (ADDRESS, CALLING, CELL, COUNTING, ENDING, GIVEN, KEEPING, Kind, LISTS, SHOWING, TREES,
+                         VARIABLE, WATCHED, having)
+from branch_kinds_of_checks import ARGUMENT, OF_CHECKS
 
-# A variable of the generated C, and an address in a comparison of two.
-VARIABLE = r'[a-z]\d+'
-ADDRESS = rf'(?:{VARIABLE}|\(TABLES \+ \d+u\)|bytes|text|name)'
-# The address of a cell.
-CELL = r'(no_address\()?(\(word\))?(p\d+|w\d+|cells|name|value|a5)'
-# The code by which lists and nodes take memory. That of trees stands in two more functions as a part of them.
-LISTS = 'core_alloc_|std_alloc_vec_Vec_grow|std_collections_btree_node_'
-# The exports that have lists.
-SHOWING = 'engine_(check|trace_step)|c_check_'
-# Functions that go to an argument by its number, which is one of those that they counted.
-COUNTING = 'warnings_(watch_Watch_given_argument|performed_(look_at_call|warn_of_nesting)|arguments_|segmented_)'
-TREES = 'std_collections_btree_|std_alloc_vec_(Vec_remove|lodged_)|warnings_findings_'
-
-
-# An argument in functions that count the arguments, or find one that they name, before they go to it.
-COUNTED = 'warnings_(performed_look_at_function|segmented|arguments|watch_Watch_place_of_default)'
-
-
-class Kind(typing.NamedTuple):
-    """A kind of branches: what they are, or what excludes them; the functions and the text of the condition that have
-    it; texts in front of it, where @ is one of the compared variables, and in the next line; further branches that
-    have it; and texts of the first line of the block around it, and anywhere in front of it in its function."""
-    what: str
-    functions: str = ''
-    condition: str = ''
-    before: str = ''
-    after: str = ''
-    also: tuple = ()
-    within: str = ''
-    behind: str = ''
-
-
-def having(functions='', condition='', before='', after='', within='', behind=''):
-    """Further branches of a kind."""
-    return Kind('', functions, condition, before, after, (), within, behind)
-
-
-# Functions of the checker and of its warnings.
-WATCHED, ENDING = 'checker_run_watched', 'warnings_watch_Watch_look_at_end_of_call'
-GIVEN, CALLING = 'warnings_arguments_look_at_arguments', 'warnings_performed_look_at_function'
-KEEPING = 'warnings_watch_Watch_keep_definition'
-# Functions whose arguments were counted, and texts of them.
-NESTED, PARTS = 'warnings_performed_warn_of_nesting', 'warnings_operands_parts_number'
-CHOSEN, TEXTS = 'warnings_watch_Watch_place_of_chosen', 'warnings_segmented_look_for_texts'
-PLACES, END = r'load_word\(ending \+ 48u\)', r'^if \((w\d+) == (w\d+)\) {$'
-# Branches of searches for an argument that is there.
-ARGUMENT = (
-    having(COUNTED, r'^if \((w\d+) != 0u\) {$', r'\b@ = w\d+;$', r'^word p\d+ = p\d+;$'),
-    having(COUNTED, END, r'\b@ = w\d+;\n *if \(@ != 0u\) {'),
-    having(COUNTED, r'(n\d+) \? (w\d+( - w\d+)?|\(word\)w\d+) : (0u|\(word\)w\d+)', r'do {\n(.*\n){10,22}.*u32 @ = w'),
-    having(CALLING, r'^if \((w\d+) != 0u\) {$', r'\b@ = n\d+ \? w', '^word p',
-           r'^{$'),
-    having(CALLING, END, r'parts_number\(.*\n(.*\n){1,14}.*$'),
-    having(TEXTS, r'^if \(n\d+ == 0u\) {$', '', r'^(word p\d+ = p|const u64 w)\d+'),
-    having(NESTED, r'^if \(n\d+ == 0u\) {$|n\d+ \? (\(?\(word\)|w\d+ : 0u)'),
-    having(NESTED, r'^if \((w\d+) != 0u\) {$', r'@ = n\d+ \? w\d+ : 0u;$'),
-    having(NESTED, r'^if \(w\d+ == w\d+\) {$', within='^while'),
-    having(NESTED, r'^if \(load8\(p\d+\) != 2u\) {$', within='^for'),
-    having(PARTS, r'== arguments_len\) {$|^if \(n\d+ == 0u\) {$'),
-    having(PARTS, r'(n\d+) \? ', r'const u32 @ = (w\d+ (<|>=) arguments_len|w\d+ >= w\d+);'),
-    having(PARTS, r'^if \((w\d+) != 0u\) {$',
-           r'u64 w\d+ = arguments_len - w\d+;\n *@ = n\d+ \?|const u64 @ = (arguments_len|w\d+) - .*;$'),
-    having(PARTS, END, r'const u64 @ = arguments_len - |const u64 @ = w\d+ - w\d+;\n *if \(@ != 0u\) {'),
-    having(PARTS, END, r'@ = n\d+ \? w\d+ : 0u;', behind=r'while \(w\d+ != 0u\);'),
-    having(CHOSEN, END, r'u64 @ = 0u;|>= 4u\) {\n(.*\n){0,14}.*@ = 0u;\n *word p\d+ = p\d+;\n *while'),
-    having(CHOSEN, r'\(n\d+ \? \(word\)|^w\d+ = n\d+ \? w\d+ : 0u;'),
-    having(CHOSEN, r'^const u64 w\d+ = n\d+ \? w\d+ : 0u;$', '', r'^u64 w\d+ = w\d+;$'),
-    having(CHOSEN, r'^(} else )?if \((w\d+) [!=]= 0u\) {$'),
-    having('warnings_watch_Watch_place_of_default', r'^if \(w\d+ == 0u\) {$|^} while \(w\d+ != w\d+\);$'),
-    having(TEXTS, END, r'if \((n\d+ == 0u|w\d+ != 0u)\) {\n *word p\d+ = p\d+;\n *while.*\n(.*\n){1,4}.*$',
-           behind=PLACES),
-    having(TEXTS, r'^if \(w\d+ >= 2u\) {$', '', PLACES),
-    having(TEXTS, r'n\d+ \? |^if \(n\d+\) {$', behind=PLACES),
-    having(TEXTS, r'^if \((w\d+) != 0u\) {$', r'@ = n\d+ \? w\d+ : 0u;$|@ = w\d+ - w\d+;$', behind=PLACES),
-    having(TEXTS, r'^if \(w\d+ != 0u\) {$', '', r'^w\d+ = 0u - w\d+;$'),
-    having(TEXTS, r'^if \(w\d+ (== 0u|< 2u)\) {$', '', r'^return n\d+;$', behind=PLACES),
-)
 # None of the branches of these kinds that aren't taken can be taken.
 EXCLUDED = {
     'trap': Kind(
@@ -86,7 +11,7 @@ EXCLUDED = {
         '(`IsSound` of trac_forms)',
         condition=r'\btrap\(\)', also=(having(KEEPING, r'^if \(load8\(p\d+\) == 1u\)$', '', r'^goto L\d+;$'),)),
     'null': Kind('a null pointer: `api.c` hands the exports pointers that are never null',
-                 condition=r' == 0u \? 4096u : 0u\)'),
+                 condition=r' == 0u \? 4096u : 0u[);]'),
     'one chunk': Kind(
         'an arena whose first chunk is missing, is not whole pages, or is not the only one: `arena_over` of trac_lent '
         'takes all whole pages as that one, `Lent` refuses all blocks after it, and no function sets a limit',
@@ -142,12 +67,26 @@ EXCLUDED = {
         functions='std_collections_btree_row_Row_reverse', condition=rf'\(({VARIABLE}) (!= 0u|<= [1-6]u)\)',
         before=rf'\b@ = {VARIABLE} - [1-7]u;'),
     'table': Kind('a constant text that overlaps what it is copied to: the tables of the engine are never written',
-                  condition=rf'\({VARIABLE} - \(TABLES \+ \d+u\) (<|<=|>) ({VARIABLE}|\d+u)\)'),
+                  condition=rf'\({VARIABLE} - \(TABLES \+ \d+u\) (<|<=|>) ({VARIABLE}|\d+u)\)',
+                  also=(having('views_', r'^if \(w\d+ - (w\d+) >= p\d+\) {$',
+                               r'const u64 @ = n\d+ \? TABLES \+ \d+u : TABLES \+ \d+u;$'),
+                        having('views_', r'^if \(w\d+ - (w\d+) <= \d+u\) {$', r'const u64 @ = table64\((.*\n)*'))),
     'part': Kind(
         'a part that is empty, stays where it is, overlaps its copy or is copied the other way: `copy_long` of '
         'trac_space first tests `end - start < BLOCK`, `start.abs_diff(to) < BLOCK` and `start < to`, and '
         '`copy_disjoint` `requires apart`',
         functions='space_copies_copy_(long|higher_by_parts|lower_by_parts)'),
+    'eights': Kind(
+        'a copy to a higher place of 17 to 24 cells that takes another number of blocks of eight than two before the '
+        'first block, or one of more cells that takes fewer (`copy_higher_by_blocks` of trac_space)',
+        functions='forms_work_Work_load_other_part|core_call_answer|core_machine_advancing_go_on$|'
+        'store_item_copies_load_items_over_index',
+        condition=rf'^if \(\(\(word\)({VARIABLE}) & 8u\) == 0u\) {{$|^if \(({VARIABLE}) >= 8u\) {{$',
+        before=r'>= 25u\) {\n(.*\n){1,4}.*>= 17u\) {\n.*\b@ = w\d+ - 9u;',
+        also=(having('forms_work_Work_load_other_part|core_call_answer|core_machine_advancing_go_on$|'
+                     'store_item_copies_load_items_over_index', r'^} while \((w\d+) > 8u\);$',
+                     r'(p\d+) = \1 - 128u;\n *@ = @ - 16u;$'),
+              having('space_filling_put_untagged', r'^if \((w\d+) >= 8u\) {$', r'\b@ = to - 9u;'))),
     'count': Kind(
         'a count of bytes, cells, items or lines, or a place among them, that reaches 2^60: there are fewer',
         condition=rf'{VARIABLE} (== 0u|[<>] {VARIABLE}) \? 18446744073709551615ull : {VARIABLE}',
@@ -225,18 +164,21 @@ EXCLUDED = {
     'gap': Kind(
         'a cell of a body that is no gap: its kind was just seen',
         functions='space_filling_fill_each|store_item_copies_',
-        condition=r'load8\(p\d+\) == 3u \? load32\(p\d+ \+ 4u\) - 1u : 4294967295u'),
+        condition=r'(load8\(p\d+\)|n\d+) == 3u \? load32\(p\d+ \+ 4u\) - 1u : 4294967295u'),
     'rest': Kind(
         'an input of which more was consumed than there is: what is left of it is its end (`TurnedOrOver` of trac_c)',
         functions='c_turn_take_turn|engine_(run|run_zeroed|trace_step)$',
         condition=rf'(input_len|script_len) < ({VARIABLE}) \? 0u|({VARIABLE}) > (input_len|script_len) \? 0u'),
     'laid out': Kind(
         'a part of the block that ends in front of where it begins: the store, neutral and active stand in this order '
-        '(`IsLaidOut` of trac_space)', functions='engine_part$', condition=r'\? 0u : w\d+;'),
+        '(`IsLaidOut` of trac_space)', functions='engine_part$', condition=r'\? 0u : w\d+;',
+        also=(having('views_faults_push_fault$', r'w\d+ > p\d+ \? 0u : w\d+|p\d+ < w\d+ \? 0u : w\d+|'
+                     r'^const u64 w\d+ = w\d+ < w\d+ \? 0u : w\d+;'),)),
     'asked before': Kind(
         'what `api.c` refuses, or asks for only within the bounds: more cells than there can be, a form or a fact that '
         'is none', functions='engine_(open|open_zeroed|turn_to_form|function_fact)$',
-        condition=r'<= (16777216|4294967295)u|^switch \(which\)'),
+        condition=r'<= (16777216|4294967295)u|^switch \(which\)',
+        also=(having('engine_function_fact$', r'^if \(load8\(frame \+ \d+u\) != 1u\) {$'),)),
     'popped': Kind(
         'a list that has no room for an item, although one was just taken from it',
         functions='checker_|warnings_watch_',
@@ -285,7 +227,12 @@ EXCLUDED = {
               having(GIVEN, r'^if \(load8\(p\d+\) == 3u\) {$'))),
     'place': Kind(
         'a digit behind the end of a bit string: its place was computed from the number of digits',
-        functions='values_bit_string_', condition=r'\(p\d+ < digits_len\)'),
+        functions='values_bit_string_', condition=r'\(p\d+ < digits_len\)',
+        also=(having('values_bit_string_', r'\((w\d+) < digits_len\)',
+                     r'= (w\d+ - p\d+|digits_len \* 18446744073709551613ull \+ w\d+);\n *const u64 @ = w\d+ / 3u;\n'
+                     r'.*= 0u;$'),
+              having('values_bit_string_', r'\((w\d+) < digits_len\)',
+                     r'= (w\d+ - p\d+|digits_len \* 18446744073709551613ull \+ w\d+);\n *const u64 @ = w\d+ / 3u;$'))),
     'taken away': Kind(
         'a difference that is less than 0: what a step took from a string, what a call has of all arguments, and what '
         'stands behind a string is a part of what there was',
@@ -338,9 +285,38 @@ EXCLUDED = {
         also=(having('std_alloc_vec_deque_VecDeque_drop', r'\(w\d+ != 0u\)',
                      after=r'^word p\d+ = \(word\)w\d+ \+ 72u;$'),)),
     'quotient': Kind(
-        'a quotient that is -2^127: the numbers that are divided are greater (`in_range` of trac_values)',
+        'a quotient that is -2^127, or a dividend that is: the numbers that are divided are greater (`in_range` of '
+        'trac_language)',
         functions='values_number_result_of', condition=r'= (n)\d+ \? w\d+ : 0u;',
-        before=r'(\(i64\)w\d+ >> 63\)|0u - \(\(u32\)\(w\d+ != 0u\) \+ w\d+\));(\n.*){1,3}$'),
+        before=r'(\(i64\)w\d+ >> 63\)|0u - \(\(u32\)\(w\d+ != 0u\) \+ w\d+\)|w\d+ = w\d+ - w\d+);(\n.*){1,3}$',
+        also=(having('values_number_result_of', r'\^ 9223372036854775808ull\) \| w\d+\) != 0u\) {$'),
+              having('functions_arithmetic_arithmetic', r'\(w\d+ != 9223372036854775808ull\) {$'))),
+    'division': Kind(
+        'a quotient of 128 binary digits, or of a dividend that has fewer than the divisor: the dividend is less than '
+        '2^127 (`in_range` of trac_language), a divisor with more digits was tested before, and `parted` of '
+        'trac_functions divides by 10^19',
+        functions='values_number_result_of|functions_arithmetic_long_arithmetic',
+        condition=rf'\(\(\({VARIABLE} \^ 127u\) \| {VARIABLE}\) == 0u\)|'
+        rf'^if \(\({VARIABLE} \| {VARIABLE}\) == 0u\) {{$'),
+    'long text': Kind(
+        'no character in front of the last nineteen of a number that is longer: its text has twenty at least '
+        '(`may_be_long` and `short_number` of trac_values)',
+        functions='functions_arithmetic_long_arithmetic', condition=r'^if \((w\d+) [<>] (w\d+)\) {$',
+        before=r'const u64 @ = w\d+ < w\d+ \? 0u : w\d+;$'),
+    'longest number': Kind(
+        'a value of digits that is less than 0, or of no digit: it grows from 0 and ends where it leaves the range '
+        '(`long_value` of trac_values), and there are more than 38 digits (`number_in_two_parts`)',
+        functions='values_number_longest_tail', condition=r'n\d+ \? 0u - (w\d+ :|\(\(u32\))',
+        also=(having('values_number_longest_tail', r'^if \(w\d+ == 0u\) {$'),)),
+    'no digits': Kind(
+        'a digit of a number that is compared with none: as many are compared as it has (`compare_digits` of '
+        'trac_values)',
+        functions='values_comparing_long_greater', condition=r'w\d+ < w\d+ \? 0u : 208u|n\d+ > n\d+ \? 0u : 2u',
+        also=(having('values_comparing_long_greater', r'^if \(w\d+ <= (w\d+)\) {$', r'const u64 @ = w\d+ - 1u;'),)),
+    'prefix': Kind(
+        'a prefix of a number without a character: that it has some was just tested (`load_prefix` of trac_functions)',
+        functions='functions_arithmetic_', condition=r'^if \(([np]\d+) != 1u\) {$',
+        before=r'store32\(work \+ 24u, n\d+\);\n *n\d+ = n\d+;\n *store8\(.*\n.*\n.*\n *return;\n *}$'),
     'item': Kind(
         'an item behind the end of a body, a run of characters without one, or a number without a digit, where a form '
         'is displayed or copied: places are counted up to its length',
@@ -359,7 +335,13 @@ EXCLUDED = {
               having(ENDING, r'^if \((n\d+) != 0u\) {$', r'@ = load32\(machine \+ 32u\);$'),
               having(ENDING, r'^if \(n\d+ != n\d+\) {$'),
               having(WATCHED, r'^if \(load32\(frame \+ 1388u\) > n\d+\) {$|'
-                     r'load8\(p\d+\) == 1u \? load8\(p\d+ \+ 1u\) : 0u'))),
+                     r'load8\(p\d+\) == 1u \? load8\(p\d+ \+ 1u\) : 0u'),
+              having('engine_trace_step$', r'(n\d+) \? w\d+ - p\d+ : 0u;|(n\d+) \? p\d+ : \(word\)w\d+\) << 3\)',
+                     r'\b@ = n\d+ - 1u < w\d+;'),
+              having('engine_trace_step$', r'^if \(load32\(machine \+ 20u\) > (n\d+)\) {$', r'\b@ = n\d+ - 1u;$'),
+              having('engine_trace_step$', r'load8\(p\d+\) == 1u \? load8\(p\d+ \+ 1u\) : 0u\)'),
+              having('tracer_shown_Shown_look_at_call$', r'= (n\d+) \? w\d+ : 0u;|\(\((n\d+) \? w\d+ : w\d+\) << 3',
+                     r'\b@ = w\d+ > call;'))),
     'argument found': Kind(
         'an argument of a step that performs none, or behind the last one: `trac_argument` asks for the number of '
         'arguments first, and the next step for those of its call',
@@ -376,7 +358,105 @@ EXCLUDED = {
         'a character of one byte, or a second one: `character_len` of trac_views asks of bytes that begin with another '
         'one, and of the fewest bytes first', functions='views_escapes_is_whole',
         condition=r'\(\(i32\)n\d+ >= 0\)|\(w\d+ < 2u\)|while \(w\d+ < len\)'),
-    'digits': Kind('a number without a digit', condition=rf'if \(({VARIABLE}) != 0u\)', before=r'\b@ = 40u - '),
+    'failed reading': Kind(
+        'a step that is not made, performs no call that reads, or ends in another way, where reading fails: the turn '
+        'before it waited for input (`one_step` of trac_c)', functions='engine_trace_step$',
+        condition=r'^if \(load8\(machine \+ 84u\) == 1u\) {$|^if \(load64\(machine \+ 64u\) == w\d+\) {$|'
+        r'^if \(\(?n\d+ & (3u|12u)\)',
+        also=(having('engine_trace_step$', r'^if \(load8\(frame \+ \d+u\) == 1u\) {$',
+                     after=r'^n\d+ = load8\(frame \+ \d+u\);$'),
+              having('engine_trace_step$', r'^if \(n\d+\) {$', after=r'^core_call_answer\('),
+              having('engine_trace_step$', r'^if \(\((n\d+) & 255u\) == 0u\) {$', r'n\d+ = load32\(p\d+\);$',
+                     r'^n\d+ = 0u;$'))),
+    'slice': Kind(
+        'an output that fails: what a step prints fits in its bytes, or the step is not made (`step_on` of trac_c)',
+        functions='engine_trace_step$', condition=r'^switch \(n\d+ - 1u\)',
+        after='^case 0:$'),
+    'later': Kind(
+        'lines or a form before their step is made, and names of deleted forms where a step waits: only `dd` and `da` '
+        'delete forms, and wait for nothing', functions='engine_trace_step$', condition=r'^if \((w\d+) != 0u\) {$',
+        before=r'= load32\(trace \+ 48u\);\n(.*load64\(p\d+\);\n)?.*\b@ = load64\(frame \+ 208u\);$',
+        also=(having('engine_trace_step$', r'^if \((w\d+) != 0u\) {$',
+                     r'case 10:\n(.*\n)*.*\b@ = load64\(frame \+ 288u\);$'),
+              having('engine_trace_step$', r'^if \((w\d+) == 0u\) {$',
+                     r'w\d+ = 0u;\n *n\d+ = 10u;\n.*\b@ = load64\(frame \+ 320u\);$'),
+              having('engine_trace_step$', r'^if \((w\d+) == 0u\) {$', r'frame \+ 192u\)\) {\n *store64\(p\d+ \+ '
+                     r'32u(.*\n)*.*}\n.*\b@ = load64\(frame \+ 320u\);$'))),
+    'newest': Kind(
+        'a list that ends and is not the last of its arena: it is the newest, as those that were made after it ended '
+        'before it: the lines, their copy, names of deleted forms and arguments where no call is made, and a text that '
+        'finds no more memory', functions='engine_trace_step$',
+        condition=r'^if \(load64\(p\d+\) \+ w\d+ == (load64\(frame \+ (192|464)u\))\) {$',
+        also=(having('engine_trace_step$', r'^if \(load64\(p\d+\) \+ (w\d+) == w\d+\) {$',
+                     r'= load64\(frame \+ 480u\);(\n.*){5}$'),
+              having('engine_trace_step$', r'^if \(load64\(p\d+\) \+ (w\d+) == load64\(frame \+ 224u\)\) {$',
+                     r'case 10:\n'),
+              having('engine_trace_step$', r'^if \(load64\(p\d+\) \+ (w\d+) == load64\(frame \+ 272u\)\) {$',
+                     r'= load32\(trace \+ 48u\);\n *w\d+ = load64\(p\d+\);\n'),
+              having('views_escapes_push_(cells_cut|name)$',
+                     r'^if \(load64\(p\d+\) \+ (w\d+) == load64\(frame \+ 8u\)\) {$'),
+              having('views_forms_push_form$', r'^if \(load64\(p\d+\) \+ w\d+ != load64\(frame\)\) {$'))),
+    'marked form': Kind(
+        'the text of a form that is shown, if it has nothing: it has the mark of the pointer at least (`show_form` of '
+        'trac_core)', functions='views_forms_push_form$', condition=r'^if \((w\d+) == 0u\) {$',
+        before=r'views_escapes_push_cut\(.*\n.*\b@ = load64\(frame \+ 16u\);$'),
+    'reserved': Kind(
+        'cells for a part of a number that are not there: that all of it fits was tested before (`give_decimal` and '
+        '`give_digits` of trac_functions)', functions='functions_arithmetic_',
+        condition=r'try_reserve_without_index\(work, w\d+\) == 0u\)',
+        also=(having('functions_arithmetic_', r'^if \((n\d+) == 0u\)$',
+                     r'@ = space_space_Space_try_reserve_without_index\(work, w\d+\);(\n.*){1,4}$'),)),
+    'one cell': Kind(
+        'a character that doesn\'t fit in front of an index: the right parenthesis of the call that gives it left a '
+        'cell', functions='functions_form_parts_call_character$|core_call_answer$',
+        condition=rf'^if \(load32\((work|{VARIABLE}) \+ 24u\) \+ (n\d+) != load32\((work|{VARIABLE}) \+ 28u\)\) {{$',
+        after=r'= \(\(word\)n\d+ << 3\) \+ '),
+    'long forms': Kind(
+        'one cell, where a form or a call of `ds` is moved, or fewer than nine where a form of eight is made: a form '
+        'has three numbers, and the call has a mark, the name of its function, a comma, and all that the form has',
+        functions='functions_form_calls_delete_definition$', condition=r'^if \((w\d+) == 1u\) {$',
+        before=r'\b@ = \(u64\)p\d+ - p\d+;',
+        also=(having('functions_form_calls_define_string$', r'^if \(w\d+ == 1u\) {$'),
+              having('functions_form_calls_define_string$', r'^if \((w\d+) >= 9u\) {$',
+                     r'if \(n\d+ >= 8u\) {\n *if \(@ - 8u <= 40u\) {$'))),
+    'null name': Kind(
+        'a name without a character, of which the last character was just compared (`find_between` of trac_store)',
+        functions='store_form_cells_find_|forms_work_Work_find_among_few$', condition=r'^if \((n\d+) == 0u\)( {)?$',
+        before=r'if \(p\d+ == \w+\) {\n(.*load8.*\n)?.*\) {$'),
+    'cut': Kind(
+        'a place behind the end of a text, or in one that has nothing: a text is cut where it is longer than its '
+        'width, and looked at from one of its bytes on (`push_cut` and `push_text` of trac_views)',
+        functions='views_escapes_(push_cut|left_at)$',
+        condition=r'^if \(\(u32\)\(word\)bytes_len - 1u\) {$',
+        also=(having('views_escapes_push_cut$', r'^if \((w\d+) < bytes_len\) {$', r'u64 @ = \(u64\)p\d+ - p\d+;'),)),
+    'emptied': Kind(
+        'a list that is emptied and has something: all lists are made anew for each step (`show_in` of trac_c)',
+        functions='tracer_shown_Shown_(look_at_call|add_call)$', condition=r'^if \(load64\(p\d+\) != 0u\) {$'),
+    'index': Kind(
+        'an index without cells, which has room for another form: it has four cells for each', condition=r'^} else if '
+        r'\((n\d+) != n\d+\) {$', functions='engine_define|functions_form_calls_define_string$|forms_index_index_from$',
+        before=r'forms_index_grow_index\(\w+, n\d+ \+ 1u\);\n *}$',
+        also=(having('engine_define|functions_form_calls_define_string$|forms_index_index_from$',
+                     r'^if \((w\d+) != 0u\) {$', r'\b@ = \(\(w\d+ - p\d+\) >> 1\) & 9223372036854775806ull;$'),)),
+    'listed': Kind(
+        'a form that is none, or a call in the view of steps: names are listed of as many forms as there are (`forms` '
+        'of trac_forms), and `add_call` of trac_tracer shows calls in other views',
+        functions='functions_form_calls_list_names$', condition=r'^if \(load8\(frame\) == 1u\) {$',
+        also=(having('views_events_push_event$', r'^if \(load8\(views \+ 33u\) != 1u\) {$'),)),
+    'next rule': Kind(
+        'an active string that is empty or begins with another character, although the next rule was just told to be '
+        'that of a left parenthesis (`next_rule` of trac_core)', functions='engine_trace_step$',
+        condition=r'^if \(load8\(\(\(word\)n\d+ << 3\) \+ p\d+ \+ 1u\) == 40u\) {$',
+        also=(having('engine_trace_step$', r'^if \((n\d+) != 0u\) {$',
+                     r'case 0:\n *{\n.*@ = load32\(machine \+ 24u\);$'),)),
+    'opening': Kind(
+        'the characters that open a call, if they are none: they are two or three (`opening` of trac_views)',
+        functions='views_(calls_push_call|faults_push_fault)$', condition=r'^if \((p\d+) != 0u\) {$',
+        before=r'const u64 (w\d+) = n\d+ \? TABLES \+ \d+u : TABLES \+ \d+u;\n *if \(w\d+ - \1 >= @\) {$'),
+    'digits': Kind(
+        'a number without a digit', condition=rf'if \(({VARIABLE}) != 0u\)', before=r'\b@ = 40u - ',
+        also=(having('functions_arithmetic_', r'^if \((w\d+) [!=]= 0u\) {$', r'if \(@ <= 7u\) {$'),
+              having('functions_arithmetic_', r'^if \(w\d+ [!=]= 40u\)'))),
     'printing': Kind(
         'a step that performs no call, or a call of another function, although the next step was just found to perform '
         'one that prints (`next_function` of trac_core)',
@@ -391,257 +471,24 @@ EXCLUDED = {
         'forms_work_Work_(copy_body|set_pointer|next_char|place_of|body_len|pointer)$',
         condition=rf'\(({VARIABLE}|form|k) (?:[=!]=|[<>]=?) ({VARIABLE}|form|k)\)',
         before=r'\b@ = load32\(\w+ \+ 44u\);| = \w+ \+ 44u;\n.*\b@ = load32\(\w+\);'),
-    'begun': Kind(
-        'a list of the watch without memory, where memory runs out behind the idling procedure: this puts an origin, '
-        'calls, an argument and a call\'s cells into the lists before it reads the first string, and the watch warns '
-        'of nothing before that',
-        functions=WATCHED, condition=r'^if \((w\d+) != 0u\) {$',
-        before=r'u64 @ = load64\(frame \+ 1104u\);$', within='^do {$',
-        also=(having(WATCHED, r'^if \((w\d+) != 0u\) {$',
-                     r'u64 @ = load64\(frame \+ (1104|1168|1200)u\);$', '', r'^if \(\(n\d+ & 255u\) != 0u\) {$'),
-              having(WATCHED, r'^if \((w\d+) != 0u\) {$',
-                     r'u64 @ = load64\(frame \+ (1104|1136|1168|1200|1296)u\);$', '', r'Findings_add\('))),
-    'not begun': Kind(
-        'a list or a tree that has something before the first step: `watched` of trac_checker makes the watch right '
-        'before it looks at how the script is written, and no warning of that is of a name (`is_noted`)',
-        functions=WATCHED, condition=r'^if \((w\d+) != 0u\) {$', before=r'\n {4}(const )?u64 @ = load64\(',
-        also=(having(WATCHED, r'^if \((n\d+) == 1u\) {$', r'\n {4}const u32 @ = load8\('),
-              having('checker_run_of_script', r'^if \((n\d+) == 1u\) {$', r'@ = load8\(frame \+ 72u\);'),
-              having('checker_run_of_script', r'^if \((n\d+) == 1u\) {$',
-                     r'@ = load8\(frame \+ 40u\);\n *store64\(frame \+ 200u, alloc\);$'))),
-    'first warning': Kind(
-        'a list of warnings without memory, where those of how a script is written find too little: an arena has a '
-        'page at least, which has room for the first few; or one that has memory before the first',
-        functions='checker_run_of_script', condition=r'^if \((w\d+) != 0u\) {$', after=r'^(word p\d+ = \(word\)w\d+ \+ '
-        r'72u|if \(load64\(\(word\)w\d+ \+ 32u\) == 1u\) {$)',
-        also=(having('warnings_written_look_at_lines', r'grow_amortized4\(warnings\) == 0u'),
-              having('warnings_written_look_at_script', r'^if \(load64\(warnings \+ 16u\) == w\d+\) {$'),
-              having('warnings_written_look_at_script', r'^if \((n\d+) == 0u\) {$', r'@ = std_alloc_vec_Vec_grow'),
-              having('warnings_written_look_at_script', r'^if \((n\d+) & 255u\) {$',
-                     r'@ = warnings_written_(look_at_lines|warn_at)')
-              )),
-    'last warnings': Kind(
-        'a list of the warnings of a fault that has memory before the first, or that finds too little behind it: the '
-        'first takes it for the place and for the open calls (`MOST_CALLS` of trac_warnings)',
-        functions='checker_run_add_fault', condition=r'^if \(w\d+ [!=]= 0u\) {$',
-        also=(having('warnings_watch_Watch_warn_of_fault', r'^if \(load64\(warnings \+ 16u\) == w\d+\) {$|'
-                     r'warnings_performed_warn\('),)),
-    'stopped': Kind(
-        'a machine that stopped before: the loop of `watched` of trac_checker ends with the first fate',
-        functions='checker_run_', condition=r'^if \(load8\((frame \+ 1452u|p\d+)\) [!=]= 1u\) {$',
-        before=r'', after=r'^(w\d+ = load64\(frame \+ 1440u\);|return n\d+;)$'),
-    'whole input': Kind(
-        'an input that fails: `check_over` of trac_c gives all of it', functions=WATCHED,
-        condition=r'^if \(load8\(source \+ 16u\)\) {$|^switch \(\(core_streaming_read_text\(|'
-        r'^load8\(frame \+ \d+u\), source\) & 255u\)'),
-    'freed': Kind(
-        'a byte that finds no cell: the right parenthesis of the call that reads it has left one',
-        functions=WATCHED, condition=r'^if \(load32\(frame \+ 1396u\) == n\d+\) {$'),
-    'all printed': Kind(
-        'a device that fails: what a watched run prints goes to one that takes all (`NullSink` of trac_checker)',
-        functions=WATCHED, condition=r'^(n\d+|\(u32\)p\d+)\) & 255u\) == 0u\)|core_display_show_items\(|'
-        r'^switch \(\(u32\)\(\(word\)n\d+ & 255u\) - 1u\) {$'),
-    'some cells': Kind(
-        'a part of fewer than seventeen cells or more than twenty-four, in code for any length that copies those',
-        functions=WATCHED, condition=r'^if \(\(\(word\)w\d+ & 8u\) == 0u\) {$|^} while \(w\d+ > 8u\);$',
-        also=(having(WATCHED, r'^if \((w\d+) >= 8u\) {$', r'\b@ = w\d+ - 9u;'),)),
-    'reading': Kind(
-        'a call of another function than one that reads, although it was just found to be of one (`awaited` of '
-        'trac_events)', functions=WATCHED, condition=r'^if \(n\d+ - 2u < 23u\)$'),
-    'protected': Kind(
-        'an active string that begins with another character than a left parenthesis, although the rule for one comes '
-        'next (`next_rule` of trac_core)',
-        functions=WATCHED, condition=r'^if \((n\d+)\) {$', before=r'@ = load32\(frame \+ 1392u\);$',
-        also=(having(WATCHED, r'\+ 1u\) != 40u\)$'),)),
-    'origin': Kind(
-        'a character of the active string without an origin, or a row of steps without an origin to remove: the runs '
-        'have those of all (`move_on` of trac_warnings follows each step), and each step of a row takes a character',
-        functions=WATCHED, condition=r'^if \((w\d+) == 0u\)$',
-        before=r'@ = load64\(frame \+ 1096u\);', after='^break;$',
-        also=(having(WATCHED, r'^if \((w\d+) == 0u\) {$', r'@ = load64\(frame \+ 1096u\);', r'^n\d+ = 0u;$'),
-              having(WATCHED, r'^if \((w\d+) != 0u\) {$', r'@ = load64\(frame \+ 1096u\);$',
-                     r'^const word p\d+ = \(word\)w\d+ \* 40u;$'),
-              having('warnings_watch_Watch_follow_row', r'^if \((w\d+) == 0u\)( {)?$',
-                     behind=r'u64 @ = load64\(self \+ 56u\);'),
-              having('warnings_watch_Watch_follow_row', r'^if \((w\d+) == 0u\) {$',
-                     r'return;\n *}\n *if \(@ == 0u\) {\n.*\n.*\n *return;\n *}\n *if \(@|return;\n *}$',
-                     r'^store64\(result \+ 8u, w\d+\);$'),
-              having('warnings_watch_Watch_(look_at_end_of_call|follow_row|warn_of_fault)', r'^if \((w\d+) [!=]= 0u\)',
-                     r'@ = load64\((\w+|\(word\)self) \+ 56u\);'))),
-    'idle': Kind(
-        'an origin, or a string that is scanned, where the idling procedure is loaded: nothing is active then; or this '
-        'procedure without a character',
-        functions=WATCHED, condition=r'^if \(load64\(frame \+ (1096|1128)u\) != 0u\) {$',
-        also=(having(WATCHED, r'^if \((n\d+) == 0u\)$', r'@ = load32\(frame \+ 1392u\);$'),)),
-    'ending': Kind(
-        'a string that is scanned although none of it is active (`warn_of_ends` of trac_warnings takes away those that '
-        'end), or that doesn\'t end with a step that was just found to end it; or a longer run of origins than the '
-        'character that was its last: a run has those of one value',
-        functions=WATCHED, condition=r'^if \(w\d+ == 0u\)$|< w\d+\)$', within=r'- 16u\) >= w\d+\) {$',
-        also=(having(ENDING, r'^if \(load64\(p\d+ - 16u\) < before\) {$'),
-              having(WATCHED, r'^if \(w\d+ <= w\d+\) {$', '', r'^word p\d+ = p\d+ - 40u;$',
-                     r'^} else {$'),)),
-    'value': Kind(
-        'a value with more characters than the active string that it stands in front of',
-        functions=WATCHED, condition=r'^if \((n\d+) == 0u\) {$', before=r'const u32 @ = w\d+ > w\d+;$',
-        also=(having(WATCHED, r'(n\d+) \? 0u : (w\d+|p\d+);$', r'const u32 @ = w\d+ > w\d+;'),)),
-    'plain': Kind(
-        'a step that only takes a character, where the watch looks at others: `judge_step` of trac_warnings asks '
-        '`is_plain` first', functions=WATCHED, condition=r'^switch \(n\d+ - 1u\) {$', after='^case 6:$',
-        also=(having(WATCHED, r'^if \(n\d+ != 7u\)$'),)),
-    'places': Kind(
-        'an argument of which the watch has no place: it keeps one of each comma mark, and `close_call` of '
-        'trac_warnings takes away those of a call',
-        functions=WATCHED, condition=r'^if \(w\d+ - w\d+ > w\d+\) {$',
-        also=(having('warnings_watch_Watch_(look_at_end_of_call|keep_definition)', r'(w\d+) < (w\d+) \? 0u : w\d+;',
-                     r'@ = w\d+ - load64\(self \+ 272u\);'),)),
-    'named form': Kind(
-        'an origin in the value of a form whose name the watch doesn\'t have: `define` of trac_warnings keeps the name '
-        'of each number', functions='checker_run_WatchedRun_push_line',
-        condition=r'^if \(load64\(a1 \+ 184u\) > w\d+\) {$'),
-    'in order': Kind(
-        'a warning that stands in front of the one before it: they are told in the order of their places',
-        functions='checker_run_WatchedRun_push_warnings', condition=r'^if \(w\d+ < w\d+\) {$',
-        after='events_place_Place_behind_bytes'),
-    'words': Kind(
-        'a text without a character: a sentence of a warning, the words of a fate, or a misspelled name',
-        functions='checker_run_WatchedRun_push_line|c_check_', condition=r'^} else if \((w\d+) != 0u\) {$',
-        before=r'\bw\d+ - w\d+ < @\) {',
-        also=(having('checker_run_add_names', r'^if \((w\d+) != 0u\) {$', r'@ = load64\(p\d+ - 8u\);$'),
-              having('warnings_written_warn_at', r'^(?:} else )?if \((n\d+) == 0u\) {$', behind='@ = bytes_len == 0u;'),
-              having('warnings_written_warn_at', r'^if \(w\d+ == 0u\) {$', r'\(warnings\) == 0u\) {\n *n\d+ = 1u;$'))),
-    'plain numbers': Kind(
-        'a call of arithmetic or of `gr` that has no comma behind its name, or nothing behind that: '
-        '`has_plain_numbers` of trac_warnings takes it before',
-        functions='warnings_operands_look_at_numbers', condition=r'^if \((w\d+) == (w\d+)\) {$',
-        before=r'@ = load64\(a4 \+ 8u\);',
-        also=(having('warnings_operands_look_at_numbers', r'(n\d+) \? |^if \((n\d+) == 0u\) {$',
-                     r'load64\(a4 \+ 8u\);\n(.*\n){10,16}.*const u32 @ = '),
-              having('warnings_operands_look_at_numbers', r'^if \((w\d+) != 0u\) {$',
-                     r'load64\(a4 \+ 8u\);\n(.*\n){0,25}.*$'))),
-    'notice': Kind(
-        'a function that takes notice of 2^32 - 1 arguments (`most < 2 ^ 32 - 1` of trac_warnings)',
-        functions=CALLING, condition=r'^if \(n\d+ != 4294967295u\) {$'),
-    'open call': Kind(
-        'a call that ends, and of which the watch has no place: it keeps one of each open call, in `calls`',
-        functions='warnings_watch_Watch_(look_at_end_of_call|warn_of_result)',
-        condition=r'^if \((n\d+)( == 0u)?\) {$', before=r'const u32 @ = w\d+ == 0u;',
-        also=(having('warnings_watch_Watch_warn_of_result', r'^if \((w\d+) == 0u\) {$',
-                     r'@ = load64\(self \+ 120u\);'),)),
-    'two calls': Kind(
-        'fewer than two open calls, where more than one was just found to be open in the string', functions=ENDING,
-        condition=r'w\d+ > w\d+ \? 0u : w\d+;|^if \(w\d+ < w\d+\) {$', behind=r'w\d+ = w\d+ - 2u;'),
-    'all there': Kind(
-        'a list that isn\'t the last piece of its arena, or has no memory, while it is made or right after: nothing '
-        'else takes memory meanwhile',
-        functions='c_check_', condition=r'^if \(load64\((p\d+)\) \+ w\d+ == (?:load64\(frame \+ 432u\)|w\d+)\) {$',
-        before=r'load64\(frame \+ 448u\);\n(.*\n){0,6}.*$',
-        also=(having('warnings_performed_warn(_of)?$|warnings_watch_Watch_(warn_of_fault|origin_of_body|keep_call)',
-                     r'^if \(load64\(p\d+\) \+ w\d+ == w\d+\) {$'),
-              having('warnings_performed_warn_of$', r'^if \(w\d+ != 0u\) {$'),
-              having('warnings_bodies_look_at_body',
-                     r'^if \(load64\(p\d+\) \+ w\d+ != (load64\(frame \+ 40u\)|w\d+)\) {$'),
-              having('warnings_bodies_look_at_body', r'^if \(w\d+ == 0u\) {$', r'look_at_texts\(.*\n *n\d+ = 1u;$'),
-              having(KEEPING, r'^if \(load64\(p\d+\) \+ w\d+ != (w\d+)\) {$',
-                     behind=r'const u64 @ = load64\(frame \+ 32u\);'),
-              having(KEEPING, r'^if \(load64\(p\d+\) \+ w\d+ == (w\d+)\) {$',
-                     behind=r'\b@ = load64\(frame \+ 176u\);'),
-              having('warnings_written_warn_at',
-                     r'^if \(load64\(p\d+\) \+ w\d+ [!=]= (load64\(frame \+ 8u\)|w\d+)\) {$'),
-              having('warnings_printed_look_at_printed', r'^if \(load64\(p\d+\) \+ w\d+ [!=]= w\d+\) {$'),
-              having('warnings_printed_look_at_printed', r'^if \((w\d+) == 0u\) {$',
-                     behind=r'\b@ = load64\(frame \+ 104u\);'),
-              having(TEXTS, r'^if \(load64\(p\d+\) \+ w\d+ [!=]= (load64\(frame \+ 40u\)|w\d+)\) {$|'
-                     r'^if \(w\d+ == 0u\) {$', behind='std_alloc_vec_Vec_grow_amortized'),
-              having(TEXTS, r'^if \(w\d+ [!=]= 0u\) {$', behind='grow_amortized6(.*\n)*.*while'),
-              having(GIVEN,
-                     r'^if \(load64\(p\d+\) \+ w\d+ [!=]= (load64\(frame \+ 40u\)|w\d+)\) {$'),
-              having(GIVEN, r'^if \(w\d+ == 0u\) {$', after=r'^n\d+ = 1u;$|^return n\d+;$',
-                     behind='std_alloc_vec_Vec_grow_amortized.*\n.*\n.*\n(.*\n)*.*std_alloc_vec_Vec_grow_amortized'),
-              having(GIVEN, r'^if \(w\d+ - w\d+ <= 4u\) {$'))),
-    'form called': Kind(
-        'a form without an item: `look_at_called` of trac_warnings tests that before',
-        functions=GIVEN, condition=r'^if \(n\d+ != 0u\) {$'),
-    'given': Kind(
-        'a call of `cl` without an argument behind the form\'s name, which `look_at_arguments` of trac_warnings leaves '
-        'out, as the watch has as many places as the call has commas; or a call with two commas and fewer than four '
-        'cells',
-        functions=GIVEN, condition=r'^if \(w\d+ (<|>=) 2u\) {$',
-        also=(having(GIVEN, r'^if \(w\d+ >= 4u\) {$', behind=r'\) == 3u\) {'),
-              having(NESTED, r'^if \(w\d+ >= 4u\) {$'),
-              having(GIVEN, r'^if \((w\d+) == 0u\) {$', r'@ = load64\(ending \+ 8u\);$'))),
-    'script read': Kind(
-        'an input without a byte, although a call that stands in it is performed', functions='warnings_names_is_',
-        condition=r'^if \(input_len [!=]= 0u\) {$',
-        also=(having('warnings_printed_look_at_new_meta', r'^if \((w\d+) == 0u\) {$', r'@ = load64\(a3 \+ 88u\);$'),)),
-    'copied name': Kind(
-        'a name that is the last piece of its arena: its copy was made behind it',
-        functions=KEEPING, 
-        condition=r'^if \(load64\(p\d+\) \+ w\d+ == (w\d+)\) {$', behind=r'const u64 @ = load64\(frame \+ 32u\);'),
-    'no blanks': Kind(
-        'a text of blanks alone: `behind_blanks` of trac_warnings leaves another character at its head',
-        functions='warnings_blanks_before_last_blanks', condition=r'^} while \(cells_len != 0u\);$',
-        also=(having('warnings_blanks_trimmed', r'^if \(cells_len == 0u\) {$'),)),
-    'counted': Kind(
-        'fewer strings than were just counted, or none where one was just found to end',
-        functions='warnings_watch_Watch_warn_of_each_end',
-        condition=r'^if \(w\d+ == 0u\) {$'),
-    'suspicious name': Kind(
-        'a null name, in which nothing is suspicious (`suspicion_of_name` of trac_warnings)',
-        functions='warnings_performed_suspicion_of_call', condition=r'^if \(name_len != 0u\) {$|n\d+ \? n\d+ : 0u;$'),
-    'empty body': Kind(
-        'a text of `ss` in a body without an item, of which a warning would take memory',
-        functions='warnings_bodies_look_at_body', condition=r'look_at_texts\(.*, 0u, ending\)'),
-    'beyond': Kind(
-        'no call beyond the depth of a string that ends, although one was just found there',
-        functions='warnings_watch_Watch_warn_of_each_end',
-        condition=r'w\d+ > w\d+ \? load_word\(self|w\d+ < w\d+ \? 0u : w\d+;|^if \(load64\(self \+ 120u\) > w\d+\)$'),
-    'default place': Kind(
-        'a default value that is the name of the function (`traits` of trac_language)',
-        functions='warnings_(bodies_provides|performed_look_at_missing)', condition=r'^if \((n\d+)\) {$',
-        before=r'@ = load32\(frame \+ \d+u\);$',
-        also=(having('warnings_watch_Watch_place_of_default', r'^if \(default_\) {$'),)),
-    'null value': Kind(
-        'a null value, where the watch asks which argument it was (`origin_of_value` of trac_warnings gets one with '
-        'characters), or where arithmetic has a default value, which is its value then',
-        functions='warnings_watch_Watch_place_of_', condition=r'^if \(value_len [!=]= 0u\) {$',
-        also=(having('warnings_watch_Watch_warn_of_result', r'^if \(load8\(p\d+\) != 2u\) {$', within='^for'),
-              having('warnings_watch_Watch_warn_of_result', r'^if \(w\d+ != 0u\) {$', after=r'^return n\d+;$'))),
-    'mark': Kind(
-        'a place of the input without the character that was looked for there (`count_before` of trac_events), or '
-        'letters and blanks up to its end, although another character was just found behind them',
-        functions='warnings_misspelled_look_at_names', condition=r'== 35u\) {$',
-        also=(having('warnings_misspelled_look_at_names', r'^if \(w\d+ == w\d+\)$', r'continue;\n *break;\n *}$'),
-              having('warnings_written_look_at_mark', r'^if \(text_len == 0u\) {$|^switch \(n\d+ - 35u\) {$|'
-                     r'^if \(n\d+ != 40u\) {$', after=r'^(store8|case 5:$|n\d+ = 0u;$)'),
-              having('warnings_written_look_at_mark', r'^if \(w\d+ == w\d+\)$'))),
-    'string end': Kind(
-        'a string that ends in the input without the meta character', functions='warnings_watch_Watch_warn_of_string',
-        condition=r'^if \(load8\(p\d+\) == load8\(p\d+\)\) {$'),
-    'reach': Kind(
-        'a row of more steps than may be followed (`steps` of `follow_next` of trac_warnings)',
-        functions='warnings_watch_Watch_follow_row', condition=r'^if \(w\d+ < w\d+\)$', after=r'^goto L\d+;$'),
-    'line of none': Kind(
-        'a run without a warning whose lines find too little memory: each line is of a warning, or of a fault, which '
-        'gives one', functions='c_check_', condition=r'^if \((n\d+) == 1u\) {$',
-        before=r'\n {28,32}const u32 @ = load8\(frame \+ 792u\);'),
-    'in input': Kind(
-        'a column of a place in the input, which is 0 (`in_input` of trac_warnings), or another number of characters '
-        'of the same place there: each character of the input is scanned once',
-        functions='warnings_findings_count', condition=r'^if \(w\d+ != w\d+\) {$',
-        before=r'\+ 16u\) == 1u\)\n *break;\n(.*\n){0,14}.*$'),
-    'no bytes': Kind(
-        'a place of no bytes: `has_address` of the engine in C tests that before', functions='is_in_row',
-        condition=r'^\(count && offset \+ \(count - 1\) - (8088|8480|8872|8936)u '),
-    'function found': Kind(
-        'a call of no function, although its function was just found', functions=ENDING,
-        condition=r'(n\d+) \? n\d+ : 0u;$', behind=r'const u32 @ = n\d+ == 1u;'),
-    'null copy': Kind(
-        'a null name whose copy finds too little memory: it needs none', functions=KEEPING,
-        condition=r'^if \((w\d+) == 0u\) {$', after=r'^return n\d+;$', behind=r'const u64 @ = load64\(frame \+ 48u\);'),
+    **OF_CHECKS,
 }
 # Some of these can be taken, or nobody has examined whether they can.
 OTHERS = {
+    'deep line': Kind(
+        'more memory for the number of the calls around a call: its line has room for sixty bytes there, so the number '
+        'of the step would have more than twelve digits', functions='views_calls_push_call$',
+        condition=r'^if \((w\d+) == w\d+\) {$', before=r'store64\(line, w\d+\);$',
+        also=(having('views_calls_push_call$', r'^if \((w\d+) - w\d+ <= 1u\) {$', r'} while \(w\d+ != 0u\);$'),
+              having('views_calls_push_call$', r'^if \(w\d+ - w\d+ < (w\d+)\) {$', r'@ = 40u - '))),
+    'first bytes': Kind(
+        'the first bytes of a step, if there is no memory for them, or if its rule needs no more: the lines have '
+        'nothing yet in the view of steps, so the number of the step would have more than sixteen digits',
+        functions='views_lines_push_step$',
+        condition=r'^if \(views_lines_push_column\(|^if \(views_lines_push\(line, TABLES \+ \d+u, 2u\)',
+        also=(having('views_lines_push_step$', r'grow_amortized\(line, (2u|13u)\)'),
+              having('views_lines_push_step$', r'^if \(w\d+ - w\d+ <= 12u\) {$',
+                     after=r'grow_amortized\(line, 13u\)'))),
     'memory': Kind('a list that finds no more memory',
                    condition=r'grow_amortized|alloc_layout_slow|insert_reserved|\w+\(.*& 255u\)'),
     'too short': Kind('a list or a part of the block that is too short, or long enough',

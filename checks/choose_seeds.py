@@ -13,8 +13,9 @@ from scripts import framed
 from trac import TOP
 
 CHECKS = os.path.join(TOP, 'checks')
-COVERING = ('covering.c', 'choosing.c', 'tight.c', 'memories.c', 'waiting_traces.c', 'numbers_of_both.c',
-            'images_of_both.c', 'refused_by_both.c', os.path.join('fuzz', 'engines.c'))
+COVERING = ('covering.c', 'choosing.c', 'tight.c', 'indexed_rooms.c', 'memories.c', 'tight_traces.c',
+            'waiting_traces.c', 'numbers_of_both.c', 'images_of_both.c', 'refused_by_both.c',
+            os.path.join('fuzz', 'engines.c'))
 WIDTH = 119
 
 

@@ -1,10 +1,10 @@
 /* Runs scripts in both engines of engines.h, as the fuzzer does, and also by trac_check, by shown steps, with functions
- * of the host, with forms from outside, by the rest of trac.h, in little room (tight.c), with images of forms
- * (images_of_both.c), with little memory (memories.c), with steps that wait (waiting_traces.c), and with calls that are
- * refused (refused_by_both.c); and calls of arithmetic (numbers_of_both.c). Standard input has the scripts, each after
- * its length, which has four bytes, the lowest first. Ends with a trap if the engines differ, and otherwise prints how
- * many scripts there were. With -DCHOOSING it also prints for each script how many edges of the engine it took that no
- * script before it took (choosing.c). */
+ * of the host, with forms from outside, by the rest of trac.h, in little room (tight.c, indexed_rooms.c), with images
+ * of forms (images_of_both.c), with little memory (memories.c, tight_traces.c), with steps that wait
+ * (waiting_traces.c), and with calls that are refused (refused_by_both.c); and calls of arithmetic (numbers_of_both.c).
+ * Standard input has the scripts, each after its length, which has four bytes, the lowest first. Ends with a trap if
+ * the engines differ, and otherwise prints how many scripts there were. With -DCHOOSING it also prints for each script
+ * how many edges of the engine it took that no script before it took (choosing.c). */
 #include "covering.h"
 
 #include <stdlib.h>
@@ -406,6 +406,8 @@ int main(void) {
     refused_both();
     numbers_both();
     late_steps_both();
+    tight_traces_both();
+    indexed_rooms_both();
     while (fread(length, 1, 4, stdin) == 4) {
         const size_t count = length[0] | (size_t)length[1] << 8;
         memset(script, 0, CHOICES + 1);

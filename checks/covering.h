@@ -40,6 +40,12 @@ void waiting_traces_both(size_t count, size_t cells);
 /* Shows steps behind a million others. */
 void late_steps_both(void);
 
+/* Shows steps and ends of runs with memory that just doesn't suffice for their lines. */
+void tight_traces_both(void);
+
+/* Runs calls where an index of forms stands in the cells that they need. */
+void indexed_rooms_both(void);
+
 /* Saves the forms of both machines, and loads the image, changed or whole, into other machines and into these. */
 void save_both(trac_machine *of_proved, trac_machine *of_c);
 

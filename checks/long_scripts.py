@@ -77,6 +77,20 @@ def null_names():
     return [form % (one, other) for one in calls for other in calls]
 
 
+def deleted():
+    """Calls of `dd` with more than two names: forms of each length stay between those that it deletes."""
+    call = b"#(ds,a,x)#(ds,b,x)#(ds,c,%b)#(ds,d,%b)#(ds,e,x)#(ds,f,y)#(dd,a,b,c,e)#(pf,d)#(da)'"
+    return [b''.join(call % (b'z' * head, ALIKE[:length]) for length in range(32)) for head in (0, 4, 9, 20)]
+
+
+def deleted_alike():
+    """Calls of `dd` with more than two names that begin alike, of few forms and of many."""
+    names = [ALIKE[:length] + end for length in (1, 2, 8, 15, 16, 17, 32, 64) for end in (b'', b'a', b'b', b'ab')]
+    call = b"#(dd,q,r,%b,%bz,z%b)#(ds,%b,w)'"
+    return [b''.join(b'#(ds,%b,x)' % name for name in names[:count]) + b"'"
+            + b''.join(call % (name, name, name[1:], name) for name in names) for count in (7, len(names))]
+
+
 def written():
     """Texts with many warnings of how they are written, and no call that is performed."""
     texts = b'#(ps ,x\n', b"#( ps,(x)'", b'# (ps,x)) ', b'#[ps,x]\t', b'#(PS,x\xe2\x80\x99', b'##ps,x)\r\n'
@@ -129,4 +143,4 @@ def long_scripts():
     """All of these scripts, but for those that are run with all memories."""
     found = many(b"#(ds,%03d,)'") + many(b"#(cl,%03d)'") + many(b"#(q%03d)'")
     found += long_names() + texts_alike() + few_arguments() + ended_by_others() + shown() + null_names()
-    return found + odd_places()
+    return found + deleted() + deleted_alike() + odd_places()

@@ -8,7 +8,8 @@ import os
 import re
 import subprocess
 
-from branch_kinds import EXCLUDED, OTHERS, Kind
+from branch_kind import Kind
+from branch_kinds import EXCLUDED, OTHERS
 from trac import TOP
 
 ENGINE = os.path.join(TOP, 'hosts', 'c', 'trac_engine.c')

@@ -17,11 +17,11 @@ CHECKS = os.path.join(TOP, 'checks')
 HEADERS = os.path.join(TOP, 'hosts', 'c')
 PROVED = os.environ.get('PROVED', os.path.join(TOP, 'dist', 'libtrac.a'))
 COUNT = int(os.environ.get('COUNT', 100))
-COVERING = ('covering.c', 'tight.c', 'memories.c', 'waiting_traces.c', 'numbers_of_both.c', 'images_of_both.c',
-            'refused_by_both.c', os.path.join('fuzz', 'engines.c'))
+COVERING = ('covering.c', 'tight.c', 'indexed_rooms.c', 'memories.c', 'tight_traces.c', 'waiting_traces.c',
+            'numbers_of_both.c', 'images_of_both.c', 'refused_by_both.c', os.path.join('fuzz', 'engines.c'))
 SIZES = '-DCELLS=32u', '-DSTEPS=64u', '-DMOST_CELLS=8192'
 # The least percentage of the branches; the percentage that is taken is printed.
-LEAST = 74
+LEAST = 75
 # Each branch counts once, also where it is a part of several functions.
 ONCE = '-D__OPTIMIZE_SIZE__'
 
